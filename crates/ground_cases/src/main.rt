@@ -4,6 +4,8 @@ use source::cursor::Cursor;
 use source::text::LIMIT;
 use source::text::Text;
 use source::text::check;
+use source::trial::Place;
+use source::trial::Trial;
 use std::alloc::Global;
 use std::error::AnyError;
 use std::fs;
@@ -14,6 +16,8 @@ use stops::sets::SingleQuote;
 use stops::sets::SingleQuoteStops;
 use stops::sets::Template;
 use stops::sets::TemplateStops;
+use stops::table::Table;
+use stops::table::TableStops;
 use survey::survey::count_chars;
 
 // The bytes that a word of hex digits writes; `-` writes none.
@@ -74,7 +78,7 @@ fn told_of_stop(heap: Global, set: &str, bytes: &[u8], from: usize) -> Result<St
 fn told_of_move(heap: Global, bytes: &[u8], to: usize) -> Result<String, AnyError> {
     let mut cursor = Cursor::new(Text::new(bytes));
     cursor.move_to(to);
-    let place = cursor.place().at;
+    let place = cursor.place();
     Ok(format!(heap, "{place}")?)
 }
 
@@ -134,6 +138,31 @@ fn at_the_limit(heap: Global) -> Result<bool, AnyError> {
     Ok(taken && refused)
 }
 
+// A pattern against the law is refused and the old table kept; a lawful one is taken over.
+fn law_is_kept() -> bool {
+    let mut table = Table::new();
+    let mut pattern = [false; 256];
+    pattern[0x80] = true;
+    let refused = matches!(table.set(&pattern), Err(Refusal::UnlawfulPattern)) && !table.has(0x80);
+    pattern[0x80] = false;
+    pattern[0x41] = true;
+    refused && table.set(&pattern).is_ok() && table.has(0x41) && !table.has(0x42)
+}
+
+// A trial that is let go puts the place back, and a confirmed one does not.
+fn trial_puts_back() -> bool {
+    let mut place = Place { at: 1 };
+    let first = {
+        let mut trial = Trial::begin(b"a\\u0041", &mut place);
+        trial.take_unicode_prefix() && trial.at() == 3
+    };
+    let back = place.at == 1;
+    let mut trial = Trial::begin(b"a\\u0041", &mut place);
+    let second = trial.take_unicode_prefix();
+    trial.confirm();
+    first && back && second && place.at == 3
+}
+
 fn replay(rt: &LibcRuntime) -> Result<(), AnyError> {
     let text = fs::read_to_string(rt, "cases.txt")?;
     let mut same = 0u64;
@@ -149,6 +178,10 @@ fn replay(rt: &LibcRuntime) -> Result<(), AnyError> {
     println!(rt, "{same} agree, {other} differ")?;
     let limit = at_the_limit(rt.alloc())?;
     println!(rt, "the limit is kept: {limit}")?;
+    let law = law_is_kept();
+    println!(rt, "the law of stop sets is kept: {law}")?;
+    let back = trial_puts_back();
+    println!(rt, "a trial puts the place back: {back}")?;
     Ok(())
 }
 

@@ -39,10 +39,10 @@ impl<'t> Cursor<'t> {
         Text { bytes: self.bytes }
     }
 
-    pub fn place(&self) -> Place
-        ensures { λ r. ⌜ r ≡ now (self .entry) .place ⌝ }
+    pub fn place(&self) -> usize
+        ensures { λ r. ⌜ r ≡ now (self .entry) .place .at ⌝ }
     {
-        self.place
+        self.place.at
     }
 
     // The byte at the place, or none at the end.
@@ -81,7 +81,7 @@ impl<'t> Cursor<'t> {
         ensures place { λ r. ⌜ Cases r (now (self .exit) .place .at ≡ now (self .entry) .place .at) (λ p. now (self .exit) .place .at ≡ p .1) ⌝ }
     {
         let (c, behind) = self.peek_char()?;
-        self.place.at = behind;
+        self.place = Place { at: behind };
         Some((c as u32, behind))
     }
 
@@ -92,11 +92,11 @@ impl<'t> Cursor<'t> {
         ensures stays { λ _. ⌜ ((Boundary (held (now (self .entry) .bytes)) at → ⊥) → now (self .exit) .place .at ≡ now (self .entry) .place .at) ⌝ }
     {
         if at == self.bytes.len() {
-            self.place.at = at;
+            self.place = Place { at };
         } else if at < self.bytes.len() {
             let b = self.bytes[at];
             if b < 0x80 || 0xC0 <= b {
-                self.place.at = at;
+                self.place = Place { at };
             }
         }
     }
@@ -108,7 +108,9 @@ impl<'t> Cursor<'t> {
     {
         match after_crlf(self.rest()) {
             Some(rest) => {
-                self.place.at = self.bytes.len() - rest.len();
+                self.place = Place {
+                    at: self.bytes.len() - rest.len(),
+                };
                 true
             }
             None => false,

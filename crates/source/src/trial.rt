@@ -13,17 +13,17 @@ pub struct Place {
     pub at: usize,
 }
 
-pub struct Trial<'a> {
-    bytes: &'a [u8],
-    place: &'a mut Place,
+pub struct Trial<'t, 'p> {
+    bytes: &'t [u8],
+    place: &'p mut Place,
     saved: usize,
 }
 
-impl Drop for Trial<'_> {
+impl Drop for Trial<'_, '_> {
     fn drop(self)
         ensures { λ _. ⌜ now (self .exit .1 .0) .at ≡ self .entry .saved ⌝ }
     {
-        self.place.at = self.saved;
+        *self.place = Place { at: self.saved };
         let Trial {
             bytes: _,
             place: _,
@@ -32,9 +32,9 @@ impl Drop for Trial<'_> {
     }
 }
 
-impl<'a> Trial<'a> {
+impl<'t, 'p> Trial<'t, 'p> {
     // Begins a trial at the place.
-    pub fn begin(bytes: &'a [u8], place: &'a mut Place) -> Trial<'a>
+    pub fn begin(bytes: &'t [u8], place: &'p mut Place) -> Trial<'t, 'p>
         ensures start { λ r. ⌜ (r .saved ≡ now (place .entry) .at) × (now (r .place) ≡ now (place .entry)) × (held (r .bytes) ≡ now (bytes .entry)) ⌝ }
         ensures named { λ r. ⌜ name (r .place) ≡ name (place .entry) ⌝ }
     {
@@ -58,7 +58,7 @@ impl<'a> Trial<'a> {
         ensures same { λ _. ⌜ (now (self .exit) .saved ≡ now (self .entry) .saved) × (held (now (self .exit) .bytes) ≡ held (now (self .entry) .bytes)) ⌝ }
         ensures moved { λ _. ⌜ now (now (self .exit) .place) .at ≡ at ⌝ }
     {
-        self.place.at = at;
+        *self.place = Place { at };
     }
 
     // Takes a backslash and a `u`, both or none.
@@ -69,7 +69,7 @@ impl<'a> Trial<'a> {
     {
         match behind_unicode_prefix(self.bytes, self.place.at) {
             Some(behind) => {
-                self.place.at = behind;
+                *self.place = Place { at: behind };
                 true
             }
             None => false,
@@ -80,6 +80,7 @@ impl<'a> Trial<'a> {
     pub fn confirm(self)
         ensures { λ _. ⌜ now (self .exit .1 .0) .at ≡ now (self .entry .place) .at ⌝ }
     {
+        // the place is left as it is
         let Trial {
             bytes: _,
             place: _,

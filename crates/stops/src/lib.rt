@@ -2,3 +2,4 @@
 pub mod search;
 pub mod sets;
 pub mod table;
+mod tables;

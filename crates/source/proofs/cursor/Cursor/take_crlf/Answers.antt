@@ -13,7 +13,7 @@ pub sub-self : need.sub-self
 sub-self c = past c .fits
 
 pub ghost-self : need.ghost-self
-ghost-self c = (tt, (c .args .self .now .well, (c .args .self .now .short, (past c .boundary, tt))))
+ghost-self c = (c .args .self .now .well, (c .args .self .now .short, (past c .boundary, tt)))
 
 pub returns-in-Some : need.returns-in-Some
 returns-in-Some c =
