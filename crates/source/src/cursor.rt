@@ -39,6 +39,12 @@ impl<'t> Cursor<'t> {
         Text { bytes: self.bytes }
     }
 
+    pub fn bytes(&self) -> &'t [u8]
+        ensures { λ r. ⌜ now r ≡ held (now (self .entry) .bytes) ⌝ }
+    {
+        self.bytes
+    }
+
     pub fn place(&self) -> usize
         ensures { λ r. ⌜ r ≡ now (self .entry) .place .at ⌝ }
     {
@@ -60,7 +66,8 @@ impl<'t> Cursor<'t> {
     pub fn rest(&self) -> &'t [u8]
         ensures { λ r. ⌜ now r ≡ drop (now (self .entry) .place .at) (held (now (self .entry) .bytes)) ⌝ }
     {
-        &self.bytes[self.place.at..]
+        let (_, rest) = self.bytes.split_at(self.place.at);
+        rest
     }
 
     // The character at the place and the place behind it, or none at the end.

@@ -26,6 +26,19 @@ pub fn after_unicode_prefix(bytes: &[u8]) -> Option<&[u8]>
     }
 }
 
+// The place behind a CR LF that stands at a place, or none. A place past the end answers none.
+pub fn behind_crlf(bytes: &[u8], at: usize) -> Option<usize>
+    ensures { λ r. ⌜ Cases r (Begins 13 10 (drop at (now (bytes .entry))) → ⊥) (λ behind. Begins 13 10 (drop at (now (bytes .entry))) × (behind ≡ at + 2)) ⌝ }
+{
+    if at > bytes.len() {
+        return None;
+    }
+    match after_crlf(&bytes[at..]) {
+        Some(rest) => Some(bytes.len() - rest.len()),
+        None => None,
+    }
+}
+
 // The place behind a backslash and a `u` that stand at a place, or none. A place past the end answers none.
 pub fn behind_unicode_prefix(bytes: &[u8], at: usize) -> Option<usize>
     ensures { λ r. ⌜ Cases r (Begins 92 117 (drop at (now (bytes .entry))) → ⊥) (λ behind. Begins 92 117 (drop at (now (bytes .entry))) × (behind ≡ at + 2)) ⌝ }
