@@ -1,0 +1,12 @@
+pub mod Text
+pub mod Utf8
+pub mod Rule
+pub mod Production
+pub mod Value
+pub mod Literal
+pub mod Recovery
+pub mod Reading
+pub mod Outcome
+pub mod Laws
+pub mod Bench
+pub mod Worked
