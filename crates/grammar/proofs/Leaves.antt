@@ -5,7 +5,8 @@ use mathlib.Core.List.{List, [], _∷_, _++_}
 use native.Mathlib.Omega.{arith}
 use lib.Dec.{T}
 use Rattle.grammar.specs.Text.{Text, Spot, over, char}
-use Rattle.grammar.specs.Rule.{Rule, ahead, _▸_, digits, Run, Matches, Leaf, codes, Stand, Takes}
+use mathlib.Core.Bool.{Bool}
+use Rattle.grammar.specs.Rule.{Class, member, Bound, meets, Rule, ahead, _▸_, digits, Ahead, Run, Matches, Leaf, codes, Stand, Takes}
 use Rattle.grammar.proofs.Runs.{same-char}
 use Rattle.grammar.proofs.Apart.{settled, match-same}
 
@@ -55,3 +56,28 @@ match-leaves (digits b r) t p cs q x = subst (λ (z : List ℕ). Leaves t p z q)
 -- so a match is taken, with leaves of these codes
 pub takes : (r : Rule) (t : Text) (p : ℕ) (cs : List ℕ) (q : ℕ) → Matches t p r cs q → (ls : List Leaf) × (codes ls ≡ cs) × Takes t p r ls q
 takes r t p cs q x = let (ls, e, s) = match-leaves r t p cs q x in (ls, e, record { matches = subst (λ (z : List ℕ). Matches t p r z q) (sym e) x; stand = s })
+
+-- rules taken part by part
+
+abbrev pub leaf : ℕ → ℕ → Leaf
+leaf p c = record { place = p; code = c }
+
+pub takes-end : (t : Text) (p : ℕ) (k : Class) (e : Bool) → Ahead (t p) k e → Takes t p (ahead k e) [] p
+takes-end t p k e h = record { matches = (refl, refl, h); stand = refl }
+
+pub takes-one : (t : Text) (p : ℕ) (k : Class) (r : Rule) (c m : ℕ) (ls : List Leaf) (q : ℕ) → t p ≡ char c m → T (member c k) → Takes t m r ls q → Takes t p (k ▸ r) (leaf p c ∷ ls) q
+takes-one t p k r c m ls q e h x = record { matches = (c, m, codes ls, e, refl, h, x .matches); stand = (refl, (m, e, x .stand)) }
+
+codes-append : (ls ms : List Leaf) → codes (ls ++ ms) ≡ codes ls ++ codes ms
+codes-append [] ms = refl
+codes-append (l ∷ ls) ms = ap (λ (z : List ℕ). l .code ∷ z) (codes-append ls ms)
+
+stand-append : (t : Text) (p m q : ℕ) (ls ms : List Leaf) → Stand t p ls m → Stand t m ms q → Stand t p (ls ++ ms) q
+stand-append t p m q [] ms x y = subst (λ (z : ℕ). Stand t z ms q) (sym x) y
+stand-append t p m q (l ∷ ls) ms x y = (x .0, (x .1 .0, x .1 .1, stand-append t (x .1 .0) m q ls ms (x .1 .2) y))
+
+pub takes-digits :
+    (t : Text) (p : ℕ) (b : Bound) (r : Rule) (ds : List Leaf) (m : ℕ) (ls : List Leaf) (q : ℕ) → Run t p (codes ds) m → Stand t p ds m → T (meets b (codes ds)) → Takes t m r ls q
+    → Takes t p (digits b r) (ds ++ ls) q
+takes-digits t p b r ds m ls q x s h y =
+    record { matches = (codes ds, m, codes ls, x, codes-append ds ls, h, y .matches); stand = stand-append t p m q ds ls s (y .stand) }

@@ -4,3 +4,11 @@ pub mod Apart
 pub mod Leaves
 pub mod Listing
 pub mod Table
+pub mod Unique
+pub mod Readings
+pub mod Exact
+pub mod Nones
+pub mod Utf8
+pub mod Finder
+pub mod Bench
+pub mod Worked

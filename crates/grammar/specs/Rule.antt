@@ -69,7 +69,6 @@ meets b (d ∷ ds) = bounded b (d ∷ ds)
 -- RULES
 
 infixr 60 _▸_
-
 pub data Rule : Type 0 where
   -- the end of the rule. What stands behind is not taken: a character of the class or, if the mark is true, the text's end
   ahead : Class → Bool → Rule

@@ -41,7 +41,7 @@ Characters-stand = (bs : List ℕ) (p c q : ℕ) → Utf8 bs → utf8 bs p ≡ c
 
 -- and where a character is spelt out at a boundary, the text has it
 abbrev pub Spelt-stand : Type 0
-Spelt-stand = (bs : List ℕ) (p c : ℕ) → Utf8 bs → Boundary bs p → drop p bs ≡ encode c ++ drop (p + width c) bs → scalar c ≡ true → utf8 bs p ≡ char c (p + width c)
+Spelt-stand = (bs : List ℕ) (p c : ℕ) → Utf8 bs → Boundary bs p → drop p bs ≡ encode c ++ drop (p + width c) bs → utf8 bs p ≡ char c (p + width c)
 
 -- nothing stands at the end or past it, or at a place that is no boundary
 abbrev pub Nothing-past : Type 0
