@@ -10,7 +10,7 @@ use Rattle.grammar.specs.Text.{Text, Spot, over, char}
 use Rattle.grammar.specs.Rule.{Rule, only, absent, Ahead, Leaf, codes, Takes, Matches}
 use Rattle.grammar.specs.Production.{Character}
 use Rattle.grammar.specs.Value.{joined, characterValue}
-use Rattle.grammar.specs.Literal.{Kind, Body, double, single, template, characterRule, Production, doubleString, singleString, noSubstitution, head, middle, tail, kindOf, opening, bodyOf, closing, Node, Tree, Chain, Derives, Reads, Derivable, unitsOf}
+use Rattle.grammar.specs.Literal.{Kind, Body, double, single, template, characterRule, Production, doubleString, singleString, noSubstitution, head, middle, tail, kindOf, opening, bodyOf, closing, Node, Tree, Chain, Derives, Derivation, Derivable, unitsOf}
 use Rattle.grammar.specs.Reading.{Scan, doubleScan, singleScan, templateScan, resumption, openingOf, bodyRead, Step, proper, bad, stepRule, Ending, closed, substitution, broken, endRule, Read, Reading, asSteps}
 use Rattle.grammar.specs.Outcome.{kindAt, kindRead, endRead, Fault, stepFaults, faultsOf, endFaults, faultsRead, unitsFrom, unitsRead}
 use Rattle.grammar.specs.Laws.{Unfaulted, Accepts-exactly, Derivations-are-read, Characters-are-steps, Templates-fault-at-ends}

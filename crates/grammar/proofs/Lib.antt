@@ -9,6 +9,7 @@ pub mod Readings
 pub mod Exact
 pub mod Nones
 pub mod Utf8
+pub mod Ascii
 pub mod Finder
 pub mod Bench
 pub mod Worked

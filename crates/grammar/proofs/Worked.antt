@@ -12,7 +12,7 @@ use Rattle.grammar.specs.Text.{Text, Spot, over, char}
 use Rattle.grammar.specs.Utf8.{utf8}
 use Rattle.grammar.specs.Rule.{Matches}
 use Rattle.grammar.specs.Rule.{codes as codesOf}
-use Rattle.grammar.specs.Literal.{Kind, noSubstitution, Production, doubleString, singleString, noSubstitution, head, middle, tail, opening, Tree, Derives, Reads}
+use Rattle.grammar.specs.Literal.{Kind, noSubstitution, Production, doubleString, singleString, noSubstitution, head, middle, tail, opening, Tree, Derives, Derivation}
 use Rattle.grammar.specs.Reading.{Scan, doubleScan, singleScan, templateScan, resumption, openingOf, Read, Reading}
 use Rattle.grammar.specs.Worked.{Seven-in-a-template, Seven-in-a-string, Nothing-from-inside, Nothing-off-boundaries}
 use Rattle.grammar.proofs.Finder.{find, derive, the}
@@ -47,7 +47,7 @@ scans-off singleScan t p cs q e x = over-off e (x .3)
 scans-off templateScan t p cs q e x = over-off e (x .3)
 scans-off resumption t p cs q e x = over-off e (x .3)
 
-pub no-derivation : (t : Text) (p : ℕ) → t p ≡ over → (k : Kind) (e : ℕ) (d : Tree) (u : Option (List ℕ)) → Reads t p k e d u → ⊥
+pub no-derivation : (t : Text) (p : ℕ) → t p ≡ over → (k : Kind) (e : ℕ) (d : Tree) (u : Option (List ℕ)) → Derivation t p k e d u → ⊥
 no-derivation t p h k e d u x = opens-off (d .production) t (d .from) (codesOf (d .opens)) (d .start) (ap t (x .starts) ∙ h) (x .derives .opened .matches)
 
 pub no-reading : (t : Text) (p : ℕ) → t p ≡ over → (r : Read) → Reading t r → r .from ≡ p → ⊥

@@ -7,14 +7,14 @@ use lib.Dec.{T}
 use Rattle.std.specs.declared.option.Option.{Option}
 use Rattle.std.specs.declared.option.Option.the-variants.{Some, None}
 use Rattle.grammar.specs.Text.{Text}
-use Rattle.grammar.specs.Literal.{Kind, template, Tree, Reads, Derivable, anyNotEscape}
+use Rattle.grammar.specs.Literal.{Kind, template, Tree, Derivation, Derivable, anyNotEscape}
 use Rattle.grammar.specs.Reading.{bodyRead, Read, Reading, asSteps}
 use Rattle.grammar.specs.Outcome.{kindRead, endRead, faultsRead, unitsRead, endFaults}
 
 -- any two derivations from one start are the same: kind, end, tree and units
 abbrev pub Derivations-are-one : Type 0
 Derivations-are-one =
-    (t : Text) (start : ℕ) (k₁ k₂ : Kind) (e₁ e₂ : ℕ) (d₁ d₂ : Tree) (u₁ u₂ : Option (List ℕ)) → Reads t start k₁ e₁ d₁ u₁ → Reads t start k₂ e₂ d₂ u₂
+    (t : Text) (start : ℕ) (k₁ k₂ : Kind) (e₁ e₂ : ℕ) (d₁ d₂ : Tree) (u₁ u₂ : Option (List ℕ)) → Derivation t start k₁ e₁ d₁ u₁ → Derivation t start k₂ e₂ d₂ u₂
     → (k₁ ≡ k₂) × (e₁ ≡ e₂) × (d₁ ≡ d₂) × (u₁ ≡ u₂)
 
 -- any two readings from one start are the same, the scan included: the character there opens one scan alone
@@ -35,17 +35,17 @@ Accepts-exactly = (t : Text) (r : Read) (k : Kind) (e : ℕ) (u : Option (List �
 -- every derivation is read, and its characters are the reading's steps
 abbrev pub Derivations-are-read : Type 0
 Derivations-are-read =
-    (t : Text) (start : ℕ) (k : Kind) (e : ℕ) (d : Tree) (u : Option (List ℕ)) → Reads t start k e d u
+    (t : Text) (start : ℕ) (k : Kind) (e : ℕ) (d : Tree) (u : Option (List ℕ)) → Derivation t start k e d u
     → (r : Read) × Reading t r × (r .from ≡ start) × Unfaulted r k e u × (r .steps ≡ asSteps (d .characters))
 
 -- so of any reading from that start
 abbrev pub Characters-are-steps : Type 0
 Characters-are-steps =
-    (t : Text) (r : Read) (k : Kind) (e : ℕ) (d : Tree) (u : Option (List ℕ)) → Reading t r → Reads t (r .from) k e d u → r .steps ≡ asSteps (d .characters)
+    (t : Text) (r : Read) (k : Kind) (e : ℕ) (d : Tree) (u : Option (List ℕ)) → Reading t r → Derivation t (r .from) k e d u → r .steps ≡ asSteps (d .characters)
 
 -- none is cooked exactly when a NotEscapeSequence stands in the derivation
 abbrev pub None-exactly : Type 0
-None-exactly = (t : Text) (start : ℕ) (k : Kind) (e : ℕ) (d : Tree) (u : Option (List ℕ)) → Reads t start k e d u → (u ≡ None) ↔ T (anyNotEscape (d .characters))
+None-exactly = (t : Text) (start : ℕ) (k : Kind) (e : ℕ) (d : Tree) (u : Option (List ℕ)) → Derivation t start k e d u → (u ≡ None) ↔ T (anyNotEscape (d .characters))
 
 -- in a template no character is a fault: what is recorded comes from where it breaks off
 abbrev pub Templates-fault-at-ends : Type 0

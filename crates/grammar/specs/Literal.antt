@@ -120,7 +120,7 @@ anyNotEscape [] = false
 anyNotEscape (n ∷ ns) = isNotEscape (n .what) || anyNotEscape ns
 
 -- THE STANDARD'S RELATION between text, start, kind, end, derivation and units or none
-pub record Reads (t : Text) (start : ℕ) (kind : Kind) (end : ℕ) (d : Tree) (units : Option (List ℕ)) : Type 0 where
+pub record Derivation (t : Text) (start : ℕ) (kind : Kind) (end : ℕ) (d : Tree) (units : Option (List ℕ)) : Type 0 where
   pub derives : Derives t d
   pub starts : d .from ≡ start
   pub of-kind : kindOf (d .production) ≡ kind
@@ -128,4 +128,4 @@ pub record Reads (t : Text) (start : ℕ) (kind : Kind) (end : ℕ) (d : Tree) (
   pub valued : unitsOf (d .characters) ≡ units
 
 abbrev pub Derivable : Text → ℕ → Kind → ℕ → Option (List ℕ) → Type 0
-Derivable t start k e u = (d : Tree) × Reads t start k e d u
+Derivable t start k e u = (d : Tree) × Derivation t start k e d u

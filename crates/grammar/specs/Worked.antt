@@ -9,7 +9,7 @@ use Rattle.std.specs.Words.{Boundary}
 use Rattle.grammar.specs.Utf8.{utf8}
 use Rattle.grammar.specs.Rule.{Leaf}
 use Rattle.grammar.specs.Production.{Character, sourceCharacter, notEscape, braceNotCodePoint}
-use Rattle.grammar.specs.Literal.{Kind, str, noSubstitutionTemplate, Node, Tree, Reads}
+use Rattle.grammar.specs.Literal.{Kind, str, noSubstitutionTemplate, Node, Tree, Derivation}
 use Rattle.grammar.specs.Recovery.{badBraceOver}
 use Rattle.grammar.specs.Reading.{Step, proper, bad, doubleScan, closed, Read, Reading}
 use Rattle.grammar.specs.Outcome.{fault, invalidEscape, kindRead, endRead, faultsRead, unitsRead}
@@ -25,7 +25,7 @@ node a p cs q = record { what = a; from = p; leaves = row p cs; to = q }
 -- `\u{1100000}` in a template: NotCodePoint takes all seven digits, the brace is a character of its own, and none is cooked
 abbrev pub Seven-in-a-template : Type 0
 Seven-in-a-template =
-    (d : Tree) × Reads (utf8 (codes "`\\u{1100000}`")) 0 noSubstitutionTemplate 13 d None
+    (d : Tree) × Derivation (utf8 (codes "`\\u{1100000}`")) 0 noSubstitutionTemplate 13 d None
     × (d .characters ≡ node (notEscape braceNotCodePoint) 1 (codes "\\u{1100000") 11 ∷ node sourceCharacter 11 (codes "}") 12 ∷ [])
 
 -- and in a string: recovery takes the six digits up to the one that lifts the value, and the last is ordinary text; the ends agree
@@ -38,11 +38,11 @@ Seven-in-a-string =
 -- E0 A0 A2 is one character, U+0822. Read from inside it, the bytes A0 A2 would spell a quotation mark, and 22 another; nothing is derived or read from there
 abbrev pub Nothing-from-inside : Type 0
 Nothing-from-inside =
-    ((k : Kind) (e : ℕ) (d : Tree) (u : Option (List ℕ)) → Reads (utf8 (0xE0 ∷ 0xA0 ∷ 0xA2 ∷ 0x22 ∷ [])) 1 k e d u → ⊥)
+    ((k : Kind) (e : ℕ) (d : Tree) (u : Option (List ℕ)) → Derivation (utf8 (0xE0 ∷ 0xA0 ∷ 0xA2 ∷ 0x22 ∷ [])) 1 k e d u → ⊥)
     × ((r : Read) → Reading (utf8 (0xE0 ∷ 0xA0 ∷ 0xA2 ∷ 0x22 ∷ [])) r → r .from ≡ 1 → ⊥)
 
 -- and so of any bytes, from a place that is no boundary
 abbrev pub Nothing-off-boundaries : Type 0
 Nothing-off-boundaries =
     (bs : List ℕ) (p : ℕ) → (Boundary bs p → ⊥)
-    → ((k : Kind) (e : ℕ) (d : Tree) (u : Option (List ℕ)) → Reads (utf8 bs) p k e d u → ⊥) × ((r : Read) → Reading (utf8 bs) r → r .from ≡ p → ⊥)
+    → ((k : Kind) (e : ℕ) (d : Tree) (u : Option (List ℕ)) → Derivation (utf8 bs) p k e d u → ⊥) × ((r : Read) → Reading (utf8 bs) r → r .from ≡ p → ⊥)
