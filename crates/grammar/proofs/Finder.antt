@@ -12,7 +12,8 @@ use Rattle.grammar.specs.Rule.{Class, member, hexDigit, digit, Bound, atMost, 
 use Rattle.grammar.specs.Literal.{characterRule, Production, opening, bodyOf, closing, Node, Chain, Tree, Derives}
 use Rattle.grammar.specs.Reading.{Scan, openingOf, bodyRead, stepRule, endRule, Read, Reading}
 use Rattle.grammar.proofs.Leaves.{leaf, takes-end, takes-one, takes-digits}
-use Rattle.grammar.proofs.Table.{allCharacters, allSteps, allEndings}
+use Rattle.grammar.proofs.Characters.{allCharacters}
+use Rattle.grammar.proofs.Steps.{allSteps, allEndings}
 
 abbrev pub Take : Text → ℕ → Rule → Type 0
 Take t p r = (ls : List Leaf) × (q : ℕ) × Takes t p r ls q

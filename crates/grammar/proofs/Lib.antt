@@ -4,6 +4,8 @@ pub mod Apart
 pub mod Leaves
 pub mod Listing
 pub mod Table
+pub mod Characters
+pub mod Steps
 pub mod Unique
 pub mod Readings
 pub mod Exact

@@ -10,7 +10,8 @@ use Rattle.grammar.specs.Reading.{Scan, doubleScan, singleScan, templateScan, 
 use Rattle.grammar.specs.Laws.{Readings-are-one}
 use Rattle.grammar.proofs.Apart.{apart, settled, apart-off}
 use Rattle.grammar.proofs.Leaves.{takes-same}
-use Rattle.grammar.proofs.Table.{steps, steps-clear, endings, endings-clear, ending-ends, one-entry, settled-entry}
+use Rattle.grammar.proofs.Table.{one-entry, settled-entry}
+use Rattle.grammar.proofs.Steps.{steps, steps-clear, endings, endings-clear, ending-ends}
 use Rattle.grammar.proofs.Unique.{chain-same}
 
 read-path :

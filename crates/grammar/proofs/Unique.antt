@@ -11,7 +11,8 @@ use Rattle.grammar.specs.Laws.{Derivations-are-one}
 use Rattle.grammar.proofs.Apart.{apart, settled, apart-off}
 use Rattle.grammar.proofs.Leaves.{takes-same}
 use Rattle.grammar.proofs.Listing.{Listing}
-use Rattle.grammar.proofs.Table.{Clear, Ends, characters, characters-clear, closing-ends, one-entry, settled-entry, no-entry}
+use Rattle.grammar.proofs.Table.{Clear, Ends, one-entry, settled-entry, no-entry}
+use Rattle.grammar.proofs.Characters.{characters, characters-clear, closing-ends}
 
 pub node-path : {A : Type 0} (m n : Node A) → m .what ≡ n .what → m .from ≡ n .from → m .leaves ≡ n .leaves → m .to ≡ n .to → m ≡ n
 node-path m n a b c d i = record { what = a i; from = b i; leaves = c i; to = d i }
