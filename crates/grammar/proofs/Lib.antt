@@ -15,3 +15,5 @@ pub mod Ascii
 pub mod Finder
 pub mod Bench
 pub mod Worked
+pub mod Chains
+pub mod Digits
