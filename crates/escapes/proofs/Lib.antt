@@ -1,0 +1,5 @@
+pub mod Behinds
+pub mod Looks
+pub mod Nodes
+pub mod Numerals
+pub mod Parts

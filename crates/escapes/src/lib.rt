@@ -1,0 +1,4 @@
+// Escapes: what stands behind a backslash.
+mod digits;
+mod places;
+pub mod unicode;
