@@ -1,0 +1,2 @@
+// Literals piece by piece.
+pub mod piece;
