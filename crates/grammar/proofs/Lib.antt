@@ -17,3 +17,4 @@ pub mod Bench
 pub mod Worked
 pub mod Chains
 pub mod Digits
+pub mod Marks

@@ -1,15 +1,19 @@
 -- The theorems on derivations and readings. Assumes nothing.
 use mathlib.Core.Path.{_≡_}
 use mathlib.Core.Logic.{_↔_}
+use mathlib.Core.Bool.{Bool, true, false, _||_, cond}
 use mathlib.Core.List.{List, [], _∷_}
 use Prim.Native.Nat.{ℕ}
 use lib.Dec.{T}
 use Rattle.std.specs.declared.option.Option.{Option}
 use Rattle.std.specs.declared.option.Option.the-variants.{Some, None}
 use Rattle.grammar.specs.Text.{Text}
-use Rattle.grammar.specs.Literal.{Kind, template, Tree, Derivation, Derivable, anyNotEscape}
-use Rattle.grammar.specs.Reading.{bodyRead, Read, Reading, asSteps}
-use Rattle.grammar.specs.Outcome.{kindRead, endRead, faultsRead, unitsRead, endFaults}
+use Rattle.std.specs.Options.{isSome}
+use Rattle.grammar.specs.Rule.{among, codes}
+use Rattle.grammar.specs.Production.{points}
+use Rattle.grammar.specs.Literal.{Kind, template, Node, Tree, Derivation, Derivable, anyNotEscape}
+use Rattle.grammar.specs.Reading.{bodyRead, Step, Read, Reading, asSteps}
+use Rattle.grammar.specs.Outcome.{kindRead, endRead, markRead, faultsRead, unitsRead, endFaults}
 
 -- any two derivations from one start are the same: kind, end, tree and units
 abbrev pub Derivations-are-one : Type 0
@@ -50,3 +54,16 @@ None-exactly = (t : Text) (start : ℕ) (k : Kind) (e : ℕ) (d : Tree) (u : Opt
 -- in a template no character is a fault: what is recorded comes from where it breaks off
 abbrev pub Templates-fault-at-ends : Type 0
 Templates-fault-at-ends = (t : Text) (r : Read) → Reading t r → bodyRead (r .scan) ≡ template → faultsRead r ≡ endFaults (r .ending) (r .from) (r .to)
+
+-- the mark is seen in the characters taken: a terminated literal is marked exactly when a backslash or a CR is among them (a CR of a string stands behind a backslash)
+
+abbrev pub anySign : List ℕ → Bool
+anySign [] = false
+anySign (c ∷ cs) = among c (points (0x5C ∷ 0x0D ∷ [])) || anySign cs
+
+abbrev pub anySigns : List (Node Step) → Bool
+anySigns [] = false
+anySigns (n ∷ ns) = anySign (codes (n .leaves)) || anySigns ns
+
+abbrev pub Mark-is-seen : Type 0
+Mark-is-seen = (t : Text) (r : Read) → Reading t r → markRead r ≡ cond (isSome (kindRead r)) (anySigns (r .steps)) false

@@ -59,7 +59,7 @@ zeroToThree = only ((0x30, 0x33) ∷ [])
 abbrev pub fourToSeven : Class
 fourToSeven = only ((0x34, 0x37) ∷ [])
 
--- the set { 8, 9 }, and NonOctalDecimalEscapeSequence :: one of 8 9
+-- { 8, 9 }, and NonOctalDecimalEscapeSequence :: one of 8 9
 abbrev pub eightNine : List Span
 eightNine = (0x38, 0x39) ∷ []
 
@@ -203,18 +203,18 @@ pub data Character : Type 0 where
 abbrev pub continuation : LineTerminatorSequence → Rule
 continuation l = oneOf "\\" ▸ lineTerminatorSequence l
 
--- DoubleStringCharacter and SingleStringCharacter, which differ in the quote alone
+-- DoubleStringCharacter (quote 0x22) and SingleStringCharacter (quote 0x27)
 abbrev pub stringCharacter : ℕ → Character → Rule
 -- DoubleStringCharacter :: SourceCharacter but not one of " or \ or LineTerminator
 -- SingleStringCharacter :: SourceCharacter but not one of ' or \ or LineTerminator
 stringCharacter quote sourceCharacter = but (points (quote ∷ []) ++ chars "\\" ++ lineTerminators) ▸ done
--- DoubleStringCharacter :: <LS>
+-- DoubleStringCharacter :: <LS>, SingleStringCharacter :: <LS>
 stringCharacter quote lineSeparator = this 0x2028 ▸ done
--- DoubleStringCharacter :: <PS>
+-- DoubleStringCharacter :: <PS>, SingleStringCharacter :: <PS>
 stringCharacter quote paragraphSeparator = this 0x2029 ▸ done
--- DoubleStringCharacter :: \ EscapeSequence
+-- DoubleStringCharacter :: \ EscapeSequence, SingleStringCharacter :: \ EscapeSequence
 stringCharacter quote (escape e) = oneOf "\\" ▸ escapeSequence e
--- DoubleStringCharacter :: LineContinuation
+-- DoubleStringCharacter :: LineContinuation, SingleStringCharacter :: LineContinuation
 stringCharacter quote (lineContinuation l) = continuation l
 stringCharacter quote dollar = absent
 stringCharacter quote (notEscape n) = absent

@@ -1,71 +1,78 @@
--- The values of a literal's characters: SV (12.9.4.2), MV (12.9.4.3) and TV (12.9.6.1) in 16-bit units. Assumes nothing.
+-- The values of a literal's characters: SV (12.9.4.2), MV (12.9.4.3), TV (12.9.6.1) and TRV (12.9.6.2), in 16-bit units. Assumes nothing.
 -- `cs` are the code points that the character took, its backslash included.
 use Prim.Native.Nat.{ℕ, _+_, _-_, _/_, _%_}
 use mathlib.Core.Bool.{cond}
 use mathlib.Core.List.{List, [], _∷_, _++_}
-use lib.Dec.{ltb, eqb}
-use lib.ListN.{drop, getD, take, length}
+use lib.Dec.{leb, eqb}
+use lib.ListN.{drop, getD}
 use Rattle.std.specs.declared.option.Option.{Option}
 use Rattle.std.specs.declared.option.Option.the-variants.{Some, None}
-use Rattle.grammar.specs.Rule.{mv}
+use Rattle.grammar.specs.Rule.{mv, butLast}
 use Rattle.grammar.specs.Production.{LineTerminatorSequence, lf, cr, ls, ps, crlf, EscapeSequence, singleEscape, nonEscape, nul, legacyOctal, nonOctalDecimal, hexEscape, unicodeHex4, unicodeCodePoint}
 use Rattle.grammar.specs.Production.{Character, sourceCharacter, lineSeparator, paragraphSeparator, dollar, escape, notEscape, lineContinuation, lineTerminator}
 
--- UTF16EncodeCodePoint: a code point up to FFFF as itself (a surrogate too), any other as its two halves
+-- UTF16EncodeCodePoint ( cp ), 11.1.1: cp ≤ 0xFFFF is one code unit (a surrogate too); any other is two, ⌊(cp - 0x10000) / 0x400⌋ + 0xD800 and (cp - 0x10000) modulo 0x400 + 0xDC00
 abbrev pub utf16 : ℕ → List ℕ
-utf16 c = cond (ltb c 0x10000) (c ∷ []) ((0xD800 + (c - 0x10000) / 0x400) ∷ (0xDC00 + (c - 0x10000) % 0x400) ∷ [])
+utf16 cp = cond (leb cp 0xFFFF) (cp ∷ []) (((cp - 0x10000) / 0x400 + 0xD800) ∷ ((cp - 0x10000) % 0x400 + 0xDC00) ∷ [])
 
--- the table of SingleEscapeCharacter: b f n r t v; and ' " \ give themselves
+-- the table of string single character escape sequences: \b 0008, \t 0009, \n 000A, \v 000B, \f 000C, \r 000D, \" 0022, \' 0027, \\ 005C
 abbrev pub singleEscapeValue : ℕ → ℕ
 singleEscapeValue c =
-    cond (eqb c 0x62) 0x08 (cond (eqb c 0x66) 0x0C (cond (eqb c 0x6E) 0x0A (cond (eqb c 0x72) 0x0D (cond (eqb c 0x74) 0x09 (cond (eqb c 0x76) 0x0B c)))))
+    cond (eqb c 0x62) 0x0008 (cond (eqb c 0x74) 0x0009 (cond (eqb c 0x6E) 0x000A (cond (eqb c 0x76) 0x000B (cond (eqb c 0x66) 0x000C (cond (eqb c 0x72) 0x000D c)))))
 
--- the SV of EscapeSequence and of TemplateEscapeSequence
+-- the SV of an EscapeSequence and of a TemplateEscapeSequence
 abbrev pub escapeValue : EscapeSequence → List ℕ → List ℕ
--- SingleEscapeCharacter: the code unit of the table
+-- The SV of CharacterEscapeSequence :: SingleEscapeCharacter is the String value consisting of the code unit whose numeric value is determined by the SingleEscapeCharacter according to the table.
 escapeValue singleEscape cs = singleEscapeValue (getD cs 1 0) ∷ []
--- NonEscapeCharacter: UTF16EncodeCodePoint of the code point matched by SourceCharacter
+-- The SV of NonEscapeCharacter :: SourceCharacter but not one of EscapeCharacter or LineTerminator is the result of performing UTF16EncodeCodePoint on the code point matched by SourceCharacter.
 escapeValue nonEscape cs = utf16 (getD cs 1 0)
--- 0: the code unit 0x0000
+-- The SV of EscapeSequence :: 0 is the String value consisting of the code unit 0x0000 (NULL). The same of TemplateEscapeSequence :: 0.
 escapeValue nul cs = 0x0000 ∷ []
--- LegacyOctalEscapeSequence: the code unit whose numeric value is its MV
+-- The SV of EscapeSequence :: LegacyOctalEscapeSequence is the String value consisting of the code unit whose numeric value is the MV of LegacyOctalEscapeSequence.
 escapeValue (legacyOctal l) cs = mv 8 (drop 1 cs) ∷ []
--- NonOctalDecimalEscapeSequence: the code unit of 8 or 9
+-- The SV of NonOctalDecimalEscapeSequence :: 8 is the String value consisting of the code unit 0x0038 (DIGIT EIGHT), and of 9 of the code unit 0x0039 (DIGIT NINE).
 escapeValue nonOctalDecimal cs = getD cs 1 0 ∷ []
--- HexEscapeSequence: the code unit whose numeric value is its MV
+-- The SV of HexEscapeSequence :: x HexDigit HexDigit is the String value consisting of the code unit whose numeric value is the MV of HexEscapeSequence.
 escapeValue hexEscape cs = mv 16 (drop 2 cs) ∷ []
--- u Hex4Digits: the code unit whose numeric value is the MV of Hex4Digits
+-- The SV of Hex4Digits :: HexDigit HexDigit HexDigit HexDigit is the String value consisting of the code unit whose numeric value is the MV of Hex4Digits.
 escapeValue unicodeHex4 cs = mv 16 (drop 2 cs) ∷ []
--- u{ CodePoint }: UTF16EncodeCodePoint of the MV of CodePoint
-escapeValue unicodeCodePoint cs = utf16 (mv 16 (take (length cs - 4) (drop 3 cs)))
+-- The SV of UnicodeEscapeSequence :: u{ CodePoint } is the result of performing UTF16EncodeCodePoint on the MV of CodePoint. (The digits are what is left without \u{ in front and } behind.)
+escapeValue unicodeCodePoint cs = utf16 (mv 16 (butLast (drop 3 cs)))
 
--- the TV of TemplateCharacter :: LineTerminatorSequence is its TRV: <CR> and <CR> <LF> give 0x000A
+-- The TV of TemplateCharacter :: LineTerminatorSequence is the TRV of LineTerminatorSequence.
 abbrev pub terminatorValue : LineTerminatorSequence → List ℕ
+-- The TRV of LineTerminatorSequence :: <LF> is the String value consisting of the code unit 0x000A (LINE FEED).
 terminatorValue lf = 0x000A ∷ []
+-- <CR>: the code unit 0x000A (LINE FEED)
 terminatorValue cr = 0x000A ∷ []
+-- <LS>: the code unit 0x2028 (LINE SEPARATOR)
 terminatorValue ls = 0x2028 ∷ []
+-- <PS>: the code unit 0x2029 (PARAGRAPH SEPARATOR)
 terminatorValue ps = 0x2029 ∷ []
+-- <CR> <LF>: the code unit 0x000A (LINE FEED)
 terminatorValue crlf = 0x000A ∷ []
 
 -- the SV or TV of a character; none: undefined
 abbrev pub characterValue : Character → List ℕ → Option (List ℕ)
--- SourceCharacter: UTF16EncodeCodePoint of the code point matched
+-- The SV of DoubleStringCharacter :: SourceCharacter but not one of " or \ or LineTerminator is the result of performing UTF16EncodeCodePoint on the code point matched by SourceCharacter.
+-- The same of SingleStringCharacter, and the TV of TemplateCharacter :: SourceCharacter but not one of ` or \ or $ or LineTerminator.
 characterValue sourceCharacter cs = Some (utf16 (getD cs 0 0))
--- <LS>, <PS>
+-- The SV of DoubleStringCharacter :: <LS> is the String value consisting of the code unit 0x2028 (LINE SEPARATOR).
 characterValue lineSeparator cs = Some (0x2028 ∷ [])
+-- The SV of DoubleStringCharacter :: <PS> is the String value consisting of the code unit 0x2029 (PARAGRAPH SEPARATOR).
 characterValue paragraphSeparator cs = Some (0x2029 ∷ [])
--- $: the code unit 0x0024
+-- The TV of TemplateCharacter :: $ is the String value consisting of the code unit 0x0024 (DOLLAR SIGN).
 characterValue dollar cs = Some (0x0024 ∷ [])
--- \ EscapeSequence, \ TemplateEscapeSequence: the SV of it
+-- The TV of TemplateCharacter :: \ TemplateEscapeSequence is the SV of TemplateEscapeSequence.
 characterValue (escape e) cs = Some (escapeValue e cs)
--- \ NotEscapeSequence: undefined
+-- The TV of TemplateCharacter :: \ NotEscapeSequence is undefined.
 characterValue (notEscape n) cs = None
--- LineContinuation: the empty String
+-- The SV of DoubleStringCharacter :: LineContinuation is the empty String. The TV of LineContinuation :: \ LineTerminatorSequence is the empty String.
 characterValue (lineContinuation l) cs = Some []
--- LineTerminatorSequence, of a template
 characterValue (lineTerminator l) cs = Some (terminatorValue l)
 
--- one value before another: undefined if either is, else their concatenation
+-- The SV of DoubleStringCharacters :: DoubleStringCharacter DoubleStringCharacters is the string-concatenation of the SV of DoubleStringCharacter and the SV of DoubleStringCharacters.
+-- The TV of TemplateCharacters :: TemplateCharacter TemplateCharacters is undefined if either the TV of TemplateCharacter is undefined or the TV of TemplateCharacters is undefined; otherwise their concatenation.
 abbrev pub joined : Option (List ℕ) → Option (List ℕ) → Option (List ℕ)
 joined None v = None
 joined (Some us) None = None

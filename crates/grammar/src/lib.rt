@@ -1,6 +1,6 @@
 // The literals of ECMA-262 as a definition, and the reading of a scan: the definitions stand in specs/, and the contract of each function here is a theorem on them.
 ghost use Rattle.grammar.specs.Bench.{Bench-stands, Bench-derived};
-ghost use Rattle.grammar.specs.Laws.{Derivations-are-one, Readings-are-one, Accepts-exactly, Derivations-are-read, Characters-are-steps, None-exactly, Templates-fault-at-ends};
+ghost use Rattle.grammar.specs.Laws.{Derivations-are-one, Readings-are-one, Accepts-exactly, Derivations-are-read, Characters-are-steps, None-exactly, Templates-fault-at-ends, Mark-is-seen};
 ghost use Rattle.grammar.specs.Utf8.{Characters-stand, Spelt-stand, Nothing-past, Nothing-inside};
 ghost use Rattle.grammar.specs.Worked.{Seven-in-a-template, Seven-in-a-string, Nothing-from-inside, Nothing-off-boundaries};
 
@@ -32,6 +32,13 @@ pub fn accepts_exactly() -> u8
 pub fn none_exactly() -> u8
     ensures none { λ _. ⌜ None-exactly ⌝ }
     ensures unfaulted { λ _. ⌜ Templates-fault-at-ends ⌝ }
+{
+    0
+}
+
+// A terminated literal is marked exactly when a backslash, or in a template a raw CR, is among the characters that it took.
+pub fn mark_is_seen() -> u8
+    ensures { λ _. ⌜ Mark-is-seen ⌝ }
 {
     0
 }
