@@ -1,13 +1,13 @@
 -- Two rules that cannot both match from one place, by a test that computes; and one rule matches in one way.
 use Prim.Native.Nat.{ℕ, _≤_}
-use mathlib.Core.Path.{_≡_, refl, sym, _∙_, ap, ap₂, subst}
+use mathlib.Core.Path.{_≡_, sym, _∙_, ap₂, subst}
 use mathlib.Core.Bool.{Bool, true, false, not, _&&_, _||_}
-use mathlib.Core.Logic.{_⊎_, inl, inr, ⊎-elim}
+use mathlib.Core.Logic.{⊎-elim}
 use mathlib.Core.List.{List, [], _∷_, _++_}
 use native.Mathlib.Omega.{arith}
 use lib.Dec.{T, leb, ltb, leb→le, ltb→lt, T-not}
 use Rattle.grammar.specs.Text.{Text, Spot, over, char}
-use Rattle.grammar.specs.Rule.{Class, member, hexDigit, Bound, atMost, above, justAbove, bounded, meets, mv, mvFrom, butLast, Rule, ahead, _▸_, digits, Ahead, Run, Matches}
+use Rattle.grammar.specs.Rule.{Class, member, hexDigit, Bound, atMost, above, justAbove, meets, mv, mvFrom, butLast, Rule, ahead, _▸_, digits, Ahead, Run, Matches}
 use Rattle.grammar.proofs.Classes.{both, pair, either, disjoint, disjoint-off}
 use Rattle.grammar.proofs.Runs.{same-char, Shut, run-same, lifted, lifted-from, lifted-same, lifted-off}
 

@@ -1,7 +1,7 @@
 -- Bytes below 128 as characters, and lookaheads by the byte at a place: for readers of UTF-8 bytes.
-use Prim.Native.Nat.{ℕ, _+_, _<_, _≤_}
+use Prim.Native.Nat.{ℕ, _+_, _<_}
 use mathlib.Core.Path.{_≡_, refl, sym, _∙_, ap, subst}
-use mathlib.Core.Bool.{Bool, true, false, _&&_}
+use mathlib.Core.Bool.{Bool, true, _&&_}
 use mathlib.Core.Logic.{⊎-elim}
 use mathlib.Core.List.{List, [], _∷_, _++_}
 use native.Mathlib.Omega.{arith}
@@ -9,7 +9,6 @@ use lib.Dec.{T, leb, ltb, leb→le, ltb→lt, not-T}
 use lib.ListN.{length, getD, drop}
 use lib.Utf8.{encode}
 use Rattle.std.specs.Text.{Utf8, width}
-use Rattle.std.specs.Words.{Boundary}
 use Rattle.std.proofs.shelf.Lists.{drop-more}
 use Rattle.std.proofs.shelf.Text.{boundary-before-ascii, encode-ascii, width-ascii, byte-from-char}
 use Rattle.grammar.specs.Text.{Spot, over, char}

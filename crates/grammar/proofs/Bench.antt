@@ -3,14 +3,11 @@ use Prim.Native.Nat.{ℕ}
 use mathlib.Core.Path.{_≡_, refl, sym, _∙_, ap, subst}
 use mathlib.Core.List.{List, [], _∷_}
 use lib.Dec.{T}
-use Rattle.std.specs.declared.option.Option.{Option}
-use Rattle.std.specs.declared.option.Option.the-variants.{Some, None}
 use Rattle.std.specs.Options.{isSome}
 use Rattle.std.specs.shelf.Lists.{All}
 use Rattle.std.specs.shelf.Text.{decodes}
 use Rattle.grammar.specs.Utf8.{utf8}
 use Rattle.grammar.specs.Literal.{Derivable}
-use Rattle.grammar.specs.Reading.{Read, Reading}
 use Rattle.grammar.specs.Bench.{Told, tells, Case, Stands, bench, Bench-stands, Derived, Bench-derived}
 use Rattle.grammar.proofs.Exact.{accepts-exactly}
 use Rattle.grammar.proofs.Finder.{find, the}

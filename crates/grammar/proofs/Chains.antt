@@ -1,12 +1,12 @@
 -- Rows of nodes put together, and what they tell: for readers that go piece by piece.
 use Prim.Native.Nat.{ℕ}
-use mathlib.Core.Path.{_≡_, refl, sym, _∙_, ap, ap₂, subst}
+use mathlib.Core.Path.{_≡_, refl, sym, _∙_, ap, subst}
 use mathlib.Core.Bool.{Bool, true, false, _||_}
 use mathlib.Core.List.{List, [], _∷_, _++_, append-assoc}
 use Rattle.std.specs.declared.option.Option.{Option}
 use Rattle.std.specs.declared.option.Option.the-variants.{Some, None}
 use Rattle.grammar.specs.Text.{Text}
-use Rattle.grammar.specs.Rule.{Rule, Matches, Leaf, codes, Takes}
+use Rattle.grammar.specs.Rule.{Rule, Matches, codes}
 use Rattle.grammar.specs.Value.{joined}
 use Rattle.grammar.specs.Literal.{Node, Chain}
 use Rattle.grammar.specs.Reading.{Step}

@@ -3,9 +3,9 @@ use mathlib.Core.Path.{_≡_}
 use mathlib.Core.Bool.{Bool}
 use mathlib.Core.List.{List, [], _∷_}
 use lib.Dec.{T}
-use Rattle.grammar.specs.Production.{LineTerminatorSequence, lf, cr, ls, ps, crlf, LegacyOctalEscapeSequence, zeroAlone, oneDigit, twoLow, twoHigh, threeDigits}
-use Rattle.grammar.specs.Production.{EscapeSequence, singleEscape, nonEscape, nul, legacyOctal, nonOctalDecimal, hexEscape, unicodeHex4, unicodeCodePoint}
-use Rattle.grammar.specs.Production.{NotEscapeSequence, zeroDecimal, decimalNotZero, x0, x1, u0, u1, u2, u3, brace0, braceNotCodePoint, braceCodePoint}
+use Rattle.grammar.specs.Production.{lf, cr, ls, ps, crlf, zeroAlone, oneDigit, twoLow, twoHigh, threeDigits}
+use Rattle.grammar.specs.Production.{singleEscape, nonEscape, nul, legacyOctal, nonOctalDecimal, hexEscape, unicodeHex4, unicodeCodePoint}
+use Rattle.grammar.specs.Production.{zeroDecimal, decimalNotZero, x0, x1, u0, u1, u2, u3, brace0, braceNotCodePoint, braceCodePoint}
 use Rattle.grammar.specs.Production.{Character, sourceCharacter, lineSeparator, paragraphSeparator, dollar, escape, notEscape, lineContinuation, lineTerminator}
 use Rattle.grammar.specs.Production.{character-discrete, escape-discrete, legacy-discrete, notEscape-discrete, terminator-discrete}
 use Rattle.grammar.specs.Literal.{Body, double, single, template, characterRule, Production, doubleString, singleString, noSubstitution, head, middle, tail, bodyOf, closing}

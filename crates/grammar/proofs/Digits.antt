@@ -2,10 +2,9 @@
 use Prim.Native.Nat.{ℕ, _+_, _*_, _≤_, _<_}
 use mathlib.Core.Path.{_≡_, refl, sym, _∙_, ap, subst}
 use mathlib.Core.List.{List, [], _∷_, _++_}
-use native.Mathlib.Omega.{arith}
 use lib.Dec.{T, leb, ltb, le→leb, lt→ltb}
 use Rattle.grammar.specs.Text.{Text, char}
-use Rattle.grammar.specs.Rule.{member, hexDigit, digit, mv, mvFrom, butLast, Bound, atMost, above, justAbove, meets, Run}
+use Rattle.grammar.specs.Rule.{member, hexDigit, digit, mv, mvFrom, butLast, atMost, above, justAbove, meets, Run}
 use Rattle.grammar.proofs.Classes.{pair}
 
 pub run-push : (t : Text) (p m q d : ℕ) (ds : List ℕ) → Run t p ds m → t m ≡ char d q → T (member d hexDigit) → Run t p (ds ++ d ∷ []) q

@@ -1,7 +1,6 @@
 -- A reading without a fault is a derivation, and a derivation is such a reading.
 use Prim.Native.Nat.{ℕ}
 use mathlib.Core.Path.{_≡_, refl, sym, _∙_, ap, ap₂, subst}
-use mathlib.Core.Logic.{_↔_}
 use mathlib.Core.List.{List, [], _∷_, _++_}
 use native.Mathlib.Omega.{arith}
 use Rattle.std.specs.declared.option.Option.{Option}
@@ -10,9 +9,9 @@ use Rattle.grammar.specs.Text.{Text, Spot, over, char}
 use Rattle.grammar.specs.Rule.{Rule, only, absent, Ahead, Leaf, codes, Takes, Matches}
 use Rattle.grammar.specs.Production.{Character}
 use Rattle.grammar.specs.Value.{joined, characterValue}
-use Rattle.grammar.specs.Literal.{Kind, Body, double, single, template, characterRule, Production, doubleString, singleString, noSubstitution, head, middle, tail, kindOf, opening, bodyOf, closing, Node, Tree, Chain, Derives, Derivation, Derivable, unitsOf}
+use Rattle.grammar.specs.Literal.{Kind, Body, template, characterRule, Production, doubleString, singleString, noSubstitution, head, middle, tail, kindOf, opening, bodyOf, closing, Node, Chain, Derives, Derivable, unitsOf}
 use Rattle.grammar.specs.Reading.{Scan, doubleScan, singleScan, templateScan, resumption, openingOf, bodyRead, Step, proper, bad, stepRule, Ending, closed, substitution, broken, endRule, Read, Reading, asSteps}
-use Rattle.grammar.specs.Outcome.{kindAt, kindRead, endRead, Fault, stepFaults, faultsOf, endFaults, faultsRead, unitsFrom, unitsRead}
+use Rattle.grammar.specs.Outcome.{kindAt, Fault, stepFaults, faultsOf, endFaults, unitsFrom}
 use Rattle.grammar.specs.Laws.{Unfaulted, Accepts-exactly, Derivations-are-read, Characters-are-steps, Templates-fault-at-ends}
 use mathlib.Core.Bool.{false}
 use Rattle.grammar.proofs.Unique.{node-path}

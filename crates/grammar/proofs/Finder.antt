@@ -1,7 +1,7 @@
 -- A reading or a derivation with its proof, looked for by trying the tables: for worked cases, where the text is written out.
 use Prim.Native.Nat.{ℕ, zero, suc, _+_, _*_}
 use mathlib.Core.Path.{_≡_, refl}
-use mathlib.Core.Bool.{Bool, true, false, _||_, not}
+use mathlib.Core.Bool.{Bool, true, false}
 use mathlib.Core.List.{List, [], _∷_, _++_}
 use lib.Dec.{T, ltb}
 use Rattle.std.specs.declared.option.Option.{Option}

@@ -4,7 +4,7 @@ use mathlib.Core.Path.{_≡_, refl, sym, _∙_, ap, ap₂, subst}
 use mathlib.Core.List.{List, [], _∷_, _++_}
 use native.Mathlib.Omega.{arith}
 use lib.Dec.{T}
-use Rattle.grammar.specs.Text.{Text, Spot, over, char}
+use Rattle.grammar.specs.Text.{Text, char}
 use mathlib.Core.Bool.{Bool}
 use Rattle.grammar.specs.Rule.{Class, member, Bound, meets, Rule, ahead, _▸_, digits, Ahead, Run, Matches, Leaf, codes, Stand, Takes}
 use Rattle.grammar.proofs.Runs.{same-char}

@@ -14,7 +14,9 @@ pub mod Utf8
 pub mod Ascii
 pub mod Finder
 pub mod Bench
+pub mod Nothing
 pub mod Worked
 pub mod Chains
 pub mod Digits
 pub mod Marks
+pub mod Places

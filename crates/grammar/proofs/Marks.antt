@@ -1,18 +1,18 @@
 -- The mark is seen in the characters taken.
 use Prim.Native.Nat.{ℕ}
-use mathlib.Core.Path.{_≡_, refl, sym, _∙_, ap, ap₂, subst}
+use mathlib.Core.Path.{_≡_, refl, sym, _∙_, ap, ap₂}
 use mathlib.Core.Bool.{Bool, true, false, not, _&&_, _||_, cond}
 use mathlib.Core.List.{List, [], _∷_}
 use lib.Dec.{T, T-not}
 use Rattle.std.specs.Options.{isSome}
 use Rattle.grammar.specs.Text.{Text, Spot, over, char}
-use Rattle.grammar.specs.Rule.{Class, only, but, Span, among, member, Rule, ahead, _▸_, digits, Ahead, Matches, codes, Takes, Leaf}
+use Rattle.grammar.specs.Rule.{Class, only, but, Span, among, Rule, ahead, _▸_, digits, Ahead, Matches, codes}
 use Rattle.grammar.specs.Production.{points}
 use Rattle.grammar.specs.Literal.{Body, double, single, template, Node, Chain}
-use Rattle.grammar.specs.Reading.{bodyRead, Step, stepRule, Read, Reading}
-use Rattle.grammar.specs.Outcome.{kindRead, stepMarks, anyMarks, markRead}
+use Rattle.grammar.specs.Reading.{bodyRead, Step, stepRule}
+use Rattle.grammar.specs.Outcome.{kindRead, stepMarks, anyMarks}
 use Rattle.grammar.specs.Laws.{anySign, anySigns, Mark-is-seen}
-use Rattle.grammar.proofs.Classes.{both, pair, disjoint, disjoint-off}
+use Rattle.grammar.proofs.Classes.{both, disjoint, disjoint-off}
 use Rattle.grammar.proofs.Listing.{every}
 use Rattle.grammar.proofs.Steps.{allSteps, steps-at}
 

@@ -1,10 +1,9 @@
 -- Any two readings from one start are the same.
 use Prim.Native.Nat.{ℕ}
-use mathlib.Core.Path.{_≡_, refl, sym, _∙_, ap, subst, subst₂}
-use mathlib.Core.List.{List, [], _∷_}
+use mathlib.Core.Path.{_≡_, refl, subst, subst₂}
 use lib.Dec.{T}
 use Rattle.grammar.specs.Text.{Text}
-use Rattle.grammar.specs.Rule.{Rule, Leaf, codes, Takes}
+use Rattle.grammar.specs.Rule.{codes, Takes}
 use Rattle.grammar.specs.Literal.{Body, Chain}
 use Rattle.grammar.specs.Reading.{Scan, doubleScan, singleScan, templateScan, resumption, openingOf, bodyRead, stepRule, Ending, endRule, Read, Reading}
 use Rattle.grammar.specs.Laws.{Readings-are-one}

@@ -1,13 +1,13 @@
 -- Runs of hex digits: those that nothing lengthens are one, and so are those that their last digit lifts above a number.
-use Prim.Native.Nat.{ℕ, _+_, _*_, _≤_, _<_}
+use Prim.Native.Nat.{ℕ, _+_, _*_, _≤_}
 use mathlib.Core.Path.{_≡_, refl, sym, _∙_, ap, ap₂, subst}
-use mathlib.Core.Bool.{Bool, true, false, _&&_}
-use mathlib.Core.List.{List, [], _∷_, _++_}
+use mathlib.Core.Bool.{Bool, false, _&&_}
+use mathlib.Core.List.{List, [], _∷_}
 use native.Mathlib.Omega.{arith}
 use native.Mathlib.Nat.{le-refl}
 use lib.Dec.{T, leb, ltb, leb→le, ltb→lt, le→leb}
-use Rattle.grammar.specs.Text.{Text, Spot, over, char}
-use Rattle.grammar.specs.Rule.{member, hexDigit, Run, mv, mvFrom, digit, butLast}
+use Rattle.grammar.specs.Text.{Text, Spot, char}
+use Rattle.grammar.specs.Rule.{member, hexDigit, Run, mvFrom, digit, butLast}
 use Rattle.grammar.proofs.Classes.{both, pair}
 
 pub same-char : {s : Spot} {c d m n : ℕ} → s ≡ char c m → s ≡ char d n → (c ≡ d) × (m ≡ n)

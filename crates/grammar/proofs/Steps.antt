@@ -5,7 +5,7 @@ use mathlib.Core.List.{List, [], _∷_}
 use lib.Dec.{T}
 use Rattle.grammar.specs.Production.{Character}
 use Rattle.grammar.specs.Literal.{Body, double, single, template}
-use Rattle.grammar.specs.Recovery.{BadEscape, badX0, badX1, badU0, badU1, badU2, badU3, badBrace0, badBraceOver, badBraceOpen, bad-discrete, Break, lineBreak, textEnd, lastBackslash, break-discrete}
+use Rattle.grammar.specs.Recovery.{BadEscape, badX0, badX1, badU0, badU1, badU2, badU3, badBrace0, badBraceOver, badBraceOpen, bad-discrete, lineBreak, textEnd, lastBackslash, break-discrete}
 use Rattle.grammar.specs.Reading.{Step, proper, bad, step-discrete, stepRule, Ending, closed, substitution, broken, ending-discrete, endRule}
 use Rattle.grammar.proofs.Classes.{both, pair}
 use Rattle.grammar.proofs.Apart.{apart}

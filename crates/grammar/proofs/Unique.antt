@@ -5,7 +5,6 @@ use mathlib.Core.List.{List, [], _∷_}
 use lib.Dec.{T}
 use Rattle.grammar.specs.Text.{Text}
 use Rattle.grammar.specs.Rule.{Rule, Leaf, codes, Takes}
-use Rattle.grammar.specs.Production.{Character}
 use Rattle.grammar.specs.Literal.{Body, characterRule, Production, doubleString, singleString, noSubstitution, head, middle, tail, kindOf, opening, bodyOf, closing, Node, Tree, Chain, Derives, unitsOf}
 use Rattle.grammar.specs.Laws.{Derivations-are-one}
 use Rattle.grammar.proofs.Apart.{apart, settled, apart-off}

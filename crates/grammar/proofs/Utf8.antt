@@ -1,7 +1,7 @@
 -- The characters of UTF-8 bytes.
 use Prim.Native.Nat.{ℕ, _+_, _<_, _≤_}
 use mathlib.Core.Path.{_≡_, refl, sym, _∙_, ap, subst}
-use mathlib.Core.Bool.{Bool, true, false, not, _&&_, cond}
+use mathlib.Core.Bool.{Bool, true, false, _&&_, cond}
 use mathlib.Core.Logic.{⊎-elim}
 use mathlib.Core.List.{List, [], _∷_, _++_}
 use native.Mathlib.Omega.{arith}
@@ -15,7 +15,7 @@ use Rattle.std.specs.shelf.Text.{decodes}
 use Rattle.std.proofs.shelf.Lists.{drop-all, getD-past}
 use Rattle.std.proofs.shelf.Text.{utf8-drop, decodes-nil, decodes-past-char, encodes-decodes, scalars-decodes, drop-past-char, boundary-past-char, width-bounds}
 use Rattle.grammar.specs.Text.{Spot, over, char}
-use Rattle.grammar.specs.Utf8.{leads, firstOf, utf8, Standing, Characters-stand, Spelt-stand, Nothing-past, Nothing-inside}
+use Rattle.grammar.specs.Utf8.{leads, firstOf, Standing, Characters-stand, Spelt-stand, Nothing-past, Nothing-inside}
 use Rattle.grammar.proofs.Classes.{both, pair}
 
 char-over : {c q : ℕ} → over ≡ char c q → ⊥

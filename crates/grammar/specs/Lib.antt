@@ -8,5 +8,6 @@ pub mod Recovery
 pub mod Reading
 pub mod Outcome
 pub mod Laws
+pub mod Places
 pub mod Bench
 pub mod Worked

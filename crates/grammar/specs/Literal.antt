@@ -4,7 +4,7 @@ use Prim.Native.Nat.{ℕ}
 use mathlib.Core.List.{List, [], _∷_}
 use mathlib.Core.Bool.{Bool, true, false, _||_}
 use Rattle.std.specs.declared.option.Option.{Option}
-use Rattle.std.specs.declared.option.Option.the-variants.{Some, None}
+use Rattle.std.specs.declared.option.Option.the-variants.{Some}
 use Rattle.grammar.specs.Text.{Text}
 use Rattle.grammar.specs.Rule.{Rule, _▸_, done, Leaf, codes, Takes}
 use Rattle.grammar.specs.Production.{Character, sourceCharacter, lineSeparator, paragraphSeparator, dollar, escape, notEscape, lineContinuation, lineTerminator}

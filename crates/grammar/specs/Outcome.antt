@@ -6,11 +6,11 @@ use Rattle.std.specs.declared.option.Option.{Option}
 use Rattle.std.specs.declared.option.Option.the-variants.{Some, None}
 use Rattle.std.specs.Options.{isSome}
 use Rattle.grammar.specs.Rule.{codes}
-use Rattle.grammar.specs.Production.{LineTerminatorSequence, lf, cr, ls, ps, crlf}
+use Rattle.grammar.specs.Production.{lf, cr, ls, ps, crlf}
 use Rattle.grammar.specs.Production.{Character, sourceCharacter, lineSeparator, paragraphSeparator, dollar, escape, notEscape, lineContinuation, lineTerminator}
 use Rattle.grammar.specs.Value.{characterValue, joined}
 use Rattle.grammar.specs.Literal.{Kind, str, noSubstitutionTemplate, templateHead, templateMiddle, templateTail, Node}
-use Rattle.grammar.specs.Recovery.{Break, lineBreak, textEnd, lastBackslash}
+use Rattle.grammar.specs.Recovery.{lineBreak, textEnd, lastBackslash}
 use Rattle.grammar.specs.Reading.{Scan, doubleScan, singleScan, templateScan, resumption, Step, proper, bad, Ending, closed, substitution, broken, Read}
 
 -- THE KIND; none: Undetermined

@@ -1,9 +1,7 @@
 -- Where a scan goes on although the standard derives nothing: bad escapes of a string, and literals that break off. No production of the standard. Assumes nothing.
-use Prim.Native.Nat.{ℕ}
-use mathlib.Core.List.{List, [], _∷_, _++_}
-use Rattle.grammar.specs.Rule.{Rule, _▸_, digits, hexDigit, hexDigits, atMost, justAbove, done, lookaheadNot, textOver, absent}
-use Rattle.grammar.specs.Production.{this, oneOf, chars, points}
-use Rattle.grammar.specs.Rule.{only}
+use mathlib.Core.List.{[], _∷_, _++_}
+use Rattle.grammar.specs.Rule.{only, Rule, _▸_, digits, hexDigit, hexDigits, atMost, justAbove, done, lookaheadNot, textOver, absent}
+use Rattle.grammar.specs.Production.{oneOf, chars, points}
 
 -- a bad escape of a string, by what it has taken behind the backslash: the hex digits read so far, and in braces none past the digit that lifts the value above 10FFFF
 pub data BadEscape : Type 0 where

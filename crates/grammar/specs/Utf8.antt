@@ -1,7 +1,7 @@
 -- UTF-8 bytes as a text: places are byte offsets. It has meaning for well-formed bytes (std's `Utf8`). Assumes nothing.
 -- At the end, past it, and inside a character (at a byte 80 to BF) no character stands, so nothing is derived from there.
 use mathlib.Core.Path.{_≡_}
-use mathlib.Core.Bool.{Bool, true, false, cond, not, _&&_}
+use mathlib.Core.Bool.{Bool, true, cond, not, _&&_}
 use mathlib.Core.List.{List, [], _∷_, _++_}
 use Prim.Native.Nat.{ℕ, _+_, _<_, _≤_}
 use lib.Dec.{leb}

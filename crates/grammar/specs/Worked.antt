@@ -5,13 +5,12 @@ use Prim.Native.Nat.{ℕ, _+_}
 use lib.Chars.{codes}
 use Rattle.std.specs.declared.option.Option.{Option}
 use Rattle.std.specs.declared.option.Option.the-variants.{Some, None}
-use Rattle.std.specs.Words.{Boundary}
 use Rattle.grammar.specs.Utf8.{utf8}
 use Rattle.grammar.specs.Rule.{Leaf}
-use Rattle.grammar.specs.Production.{Character, sourceCharacter, notEscape, braceNotCodePoint}
+use Rattle.grammar.specs.Production.{sourceCharacter, notEscape, braceNotCodePoint}
 use Rattle.grammar.specs.Literal.{Kind, str, noSubstitutionTemplate, Node, Tree, Derivation}
 use Rattle.grammar.specs.Recovery.{badBraceOver}
-use Rattle.grammar.specs.Reading.{Step, proper, bad, doubleScan, closed, Read, Reading}
+use Rattle.grammar.specs.Reading.{proper, bad, Read, Reading}
 use Rattle.grammar.specs.Outcome.{fault, invalidEscape, kindRead, endRead, faultsRead, unitsRead}
 
 -- ASCII characters in a row, from a place
@@ -40,9 +39,3 @@ abbrev pub Nothing-from-inside : Type 0
 Nothing-from-inside =
     ((k : Kind) (e : ℕ) (d : Tree) (u : Option (List ℕ)) → Derivation (utf8 (0xE0 ∷ 0xA0 ∷ 0xA2 ∷ 0x22 ∷ [])) 1 k e d u → ⊥)
     × ((r : Read) → Reading (utf8 (0xE0 ∷ 0xA0 ∷ 0xA2 ∷ 0x22 ∷ [])) r → r .from ≡ 1 → ⊥)
-
--- and so of any bytes, from a place that is no boundary
-abbrev pub Nothing-off-boundaries : Type 0
-Nothing-off-boundaries =
-    (bs : List ℕ) (p : ℕ) → (Boundary bs p → ⊥)
-    → ((k : Kind) (e : ℕ) (d : Tree) (u : Option (List ℕ)) → Derivation (utf8 bs) p k e d u → ⊥) × ((r : Read) → Reading (utf8 bs) r → r .from ≡ p → ⊥)

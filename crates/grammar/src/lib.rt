@@ -1,8 +1,9 @@
 // The literals of ECMA-262 as a definition, and the reading of a scan: the definitions stand in specs/, and the contract of each function here is a theorem on them.
 ghost use Rattle.grammar.specs.Bench.{Bench-stands, Bench-derived};
 ghost use Rattle.grammar.specs.Laws.{Derivations-are-one, Readings-are-one, Accepts-exactly, Derivations-are-read, Characters-are-steps, None-exactly, Templates-fault-at-ends, Mark-is-seen};
+ghost use Rattle.grammar.specs.Places.{Readings-stand, Derivations-stand, Nothing-off-boundaries};
 ghost use Rattle.grammar.specs.Utf8.{Characters-stand, Spelt-stand, Nothing-past, Nothing-inside};
-ghost use Rattle.grammar.specs.Worked.{Seven-in-a-template, Seven-in-a-string, Nothing-from-inside, Nothing-off-boundaries};
+ghost use Rattle.grammar.specs.Worked.{Seven-in-a-template, Seven-in-a-string, Nothing-from-inside};
 
 // Any two derivations from one start are the same: kind, end, tree and units.
 pub fn derivations_are_one() -> u8
@@ -57,6 +58,14 @@ pub fn utf8_stands() -> u8
     ensures spelt { λ _. ⌜ Spelt-stand ⌝ }
     ensures past { λ _. ⌜ Nothing-past ⌝ }
     ensures inside { λ _. ⌜ Nothing-inside ⌝ }
+{
+    0
+}
+
+// In UTF-8 bytes a reading and a derivation begin and end at boundaries, and the end is further on.
+pub fn readings_stand() -> u8
+    ensures readings { λ _. ⌜ Readings-stand ⌝ }
+    ensures derivations { λ _. ⌜ Derivations-stand ⌝ }
 {
     0
 }

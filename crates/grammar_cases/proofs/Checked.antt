@@ -1,9 +1,8 @@
 -- Each case is tried by a test, which antt computes; and what the test says.
 use Prim.Native.Nat.{ℕ}
-use mathlib.Core.Path.{_≡_, refl, sym, _∙_, ap, ap₂, subst}
+use mathlib.Core.Path.{_≡_, refl, sym, ap, ap₂, subst}
 use mathlib.Core.Bool.{Bool, true, false, not, cond, _&&_}
 use mathlib.Core.List.{List, [], _∷_}
-use native.Mathlib.Omega.{arith}
 use lib.Dec.{T, T-not, eqb, eqb→eq, eqb-refl}
 use lib.ListN.{length, getD}
 use Rattle.std.specs.declared.option.Option.{Option}
@@ -11,7 +10,6 @@ use Rattle.std.specs.declared.option.Option.the-variants.{Some, None}
 use Rattle.std.specs.Options.{isSome}
 use Rattle.std.specs.shelf.Lists.{All}
 use Rattle.std.specs.shelf.Text.{decodes}
-use Rattle.grammar.specs.Text.{Text}
 use Rattle.grammar.specs.Utf8.{utf8}
 use Rattle.grammar.specs.Literal.{Kind, Derivable}
 use Rattle.grammar.specs.Reading.{Scan, doubleScan, singleScan, templateScan, resumption, Read, Reading}
