@@ -1,6 +1,6 @@
 -- The bench: literals, and what their readings tell. Assumes nothing.
 use mathlib.Core.Path.{_≡_}
-use mathlib.Core.Bool.{Bool, true, false}
+use mathlib.Core.Bool.{Bool, true, false, cond}
 use mathlib.Core.List.{List, [], _∷_, _++_}
 use Prim.Native.Nat.{ℕ}
 use lib.Chars.{codes}
@@ -10,7 +10,7 @@ use Rattle.std.specs.shelf.Lists.{All}
 use Rattle.grammar.specs.Utf8.{utf8}
 use Rattle.grammar.specs.Literal.{Kind, str, noSubstitutionTemplate, templateHead, Derivable}
 use Rattle.grammar.specs.Reading.{Scan, doubleScan, templateScan, Read, Reading}
-use Rattle.grammar.specs.Outcome.{Fault, fault, unterminated, invalidEscape, kindRead, endRead, faultsRead, unitsRead, markRead}
+use Rattle.grammar.specs.Outcome.{Fault, fault, unterminated, invalidEscape, kindRead, endRead, faultsRead, unitsRead, markRead, entryRead}
 
 pub record Told : Type 0 where
   pub kind : Option Kind
@@ -18,9 +18,10 @@ pub record Told : Type 0 where
   pub faults : List Fault
   pub units : Option (List ℕ)
   pub mark : Bool
+  pub entry : Option (Option (List ℕ))
 
 abbrev pub tells : Read → Told
-tells r = record { kind = kindRead r; end = endRead r; faults = faultsRead r; units = unitsRead r; mark = markRead r }
+tells r = record { kind = kindRead r; end = endRead r; faults = faultsRead r; units = unitsRead r; mark = markRead r; entry = entryRead r }
 
 -- bytes, the scan at place 0, and what it is to tell
 pub record Case : Type 0 where
@@ -31,13 +32,13 @@ pub record Case : Type 0 where
 -- the codes of ASCII characters are their bytes
 
 abbrev string : List ℕ → ℕ → List Fault → List ℕ → Case
-string bs e fs us = record { bytes = bs; scan = doubleScan; told = record { kind = Some str; end = e; faults = fs; units = Some us; mark = true } }
+string bs e fs us = record { bytes = bs; scan = doubleScan; told = record { kind = Some str; end = e; faults = fs; units = Some us; mark = true; entry = Some (Some us) } }
 
 abbrev broken : List ℕ → ℕ → List Fault → List ℕ → Case
-broken bs e fs us = record { bytes = bs; scan = doubleScan; told = record { kind = None; end = e; faults = fs; units = Some us; mark = false } }
+broken bs e fs us = record { bytes = bs; scan = doubleScan; told = record { kind = None; end = e; faults = fs; units = Some us; mark = false; entry = None } }
 
 abbrev template : List ℕ → Kind → ℕ → Option (List ℕ) → Bool → Case
-template bs k e us m = record { bytes = bs; scan = templateScan; told = record { kind = Some k; end = e; faults = []; units = us; mark = m } }
+template bs k e us m = record { bytes = bs; scan = templateScan; told = record { kind = Some k; end = e; faults = []; units = us; mark = m; entry = cond m (Some us) None } }
 
 abbrev pub bench : List Case
 bench =
