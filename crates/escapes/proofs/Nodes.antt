@@ -6,7 +6,7 @@ use mathlib.Core.Bool.{Bool, true, false, not, _||_}
 use mathlib.Core.List.{List, [], _∷_, _++_}
 use native.Mathlib.Omega.{arith}
 use lib.Dec.{T, ltb, leb, lt→ltb, ltb→lt}
-use lib.ListN.{length, take, length-append}
+use lib.ListN.{length}
 use Rattle.std.specs.declared.option.Option.{Option}
 use Rattle.std.specs.declared.option.Option.the-variants.{Some, None}
 use Rattle.std.proofs.shelf.Ways.{tells}
@@ -20,6 +20,7 @@ use Rattle.grammar.specs.Production.{singleEscapeCharacters, nonEscapeCharacter
 use Rattle.grammar.specs.Value.{utf16, singleEscapeValue, characterValue}
 use Rattle.grammar.specs.Recovery.{BadEscape, badEscape, badX0, badX1, badU0, badU1, badU2, badU3, badBrace0, badBraceOver, badBraceOpen}
 use Rattle.grammar.proofs.Classes.{both}
+use Rattle.grammar.proofs.Digits.{butLast-push}
 use Rattle.grammar.proofs.Runs.{grows}
 use Rattle.escapes.specs.Escapes.{Alone, Wrong}
 
@@ -133,20 +134,13 @@ unit-short m t p q (a ∷ b ∷ c ∷ d ∷ ds) e k x l h = absurd (omega arith)
 
 -- `\u{`
 
-take-front : (ds es : List ℕ) (n : ℕ) → n ≡ length ds → take n (ds ++ es) ≡ ds
-take-front ds es n e = ap (λ (z : ℕ). take z (ds ++ es)) e ∙ go ds
-  where
-    go : (ds : List ℕ) → take (length ds) (ds ++ es) ≡ ds
-    go [] = refl
-    go (d ∷ ds) = ap (λ (z : List ℕ). d ∷ z) (go ds)
-
 pub braces-all :
     (m : Bool) (t : Text) (p a n q v : ℕ) (ds us : List ℕ) → t p ≡ char 117 (p + 1) → t (p + 1) ≡ char 123 a → Run t a ds n → T (meets codePoint ds) → t n ≡ char 125 q → v ≡ mv 16 ds
     → us ≡ utf16 v → Alone m t p us q
 braces-all m t p a n q v ds us e f x k g h u =
     shared m unicodeCodePoint t p q (117 ∷ 123 ∷ (ds ++ 125 ∷ [])) us refl
     (_, _, _, e, refl, tt, (_, _, _, f, refl, tt, (ds, n, 125 ∷ [], x, refl, k, (_, _, _, g, refl, tt, stop t q))))
-    (ap Some (ap (λ (z : List ℕ). utf16 (mv 16 z)) (take-front ds (125 ∷ []) (length (92 ∷ 117 ∷ 123 ∷ (ds ++ 125 ∷ [])) - 4) (let l = length-append ds (125 ∷ []) in omega arith)) ∙ ap utf16 (sym h) ∙ sym u))
+    (ap Some (ap (λ (z : List ℕ). utf16 (mv 16 z)) (butLast-push 125 ds) ∙ ap utf16 (sym h) ∙ sym u))
 
 pub braces-none : (m : Bool) (t : Text) (p a : ℕ) → t p ≡ char 117 (p + 1) → t (p + 1) ≡ char 123 a → Ahead (t a) (but hexDigits) true → Wrong m t p a
 braces-none m t p a e f h = wrong m brace0 badBrace0 t p a (117 ∷ 123 ∷ []) refl (_, _, _, e, refl, tt, (_, _, _, f, refl, tt, stop-unless t a hexDigits h))

@@ -125,17 +125,19 @@ spelt-bytes bs p q a b l =
     let w = utf8-between bs p q (a .text) l (a .boundary) (b .boundary) in
     let e = encodes-decodes (take (q - p) (drop p bs)) w in
     let n : length (take (q - p) (drop p bs)) ≡ q - p = length-take-le (q - p) (drop p bs) (omega (arith, length-drop p bs, b .boundary .0)) in
-    let d : drop (q - p) (drop p bs) ≡ drop q bs = drop-drop (q - p) p bs ∙ ap (λ (k : ℕ). drop k bs) (let k : p + (q - p) ≡ q = omega arith in k) in
-    ( sym (take-append-drop (q - p) (drop p bs)) ∙ ap (λ (z : List ℕ). take (q - p) (drop p bs) ++ z) d ∙ ap (λ (z : List ℕ). z ++ drop q bs) (sym e)
-    , let f : length (encodes (spelt bs p q)) ≡ q - p = ap length e ∙ n in omega arith )
+    let d : drop (q - p) (drop p bs) ≡ drop q bs = drop-drop (q - p) p bs ∙ ap (λ (k : ℕ). drop k bs) (let k : p + (q - p) ≡ q = omega arith in k) in (
+      sym (take-append-drop (q - p) (drop p bs)) ∙ ap (λ (z : List ℕ). take (q - p) (drop p bs) ++ z) d ∙ ap (λ (z : List ℕ). z ++ drop q bs) (sym e),
+      let f : length (encodes (spelt bs p q)) ≡ q - p = ap length e ∙ n in omega arith,
+    )
 
 -- a character spelt out at a place: the text has it, and the place behind it is one too
 pub char-spelt : (bs rest : List ℕ) (p c : ℕ) → At bs p → drop p bs ≡ encode c ++ rest → (utf8 bs p ≡ char c (p + width c)) × At bs (p + width c) × (drop (p + width c) bs ≡ rest)
 char-spelt bs rest p c a e =
-    let d = drop-past-char bs rest p c e in
-    ( spelt-stand bs p c (a .text) (a .boundary) (e ∙ ap (λ (z : List ℕ). encode c ++ z) (sym d))
-    , record { text = a .text; boundary = boundary-past-char bs rest p c (a .boundary .0) (utf8-drop bs p (a .text) (a .boundary)) e }
-    , d )
+    let d = drop-past-char bs rest p c e in (
+      spelt-stand bs p c (a .text) (a .boundary) (e ∙ ap (λ (z : List ℕ). encode c ++ z) (sym d)),
+      record { text = a .text; boundary = boundary-past-char bs rest p c (a .boundary .0) (utf8-drop bs p (a .text) (a .boundary)) e },
+      d,
+    )
 
 run : (b : Body) (bs : List ℕ) (q : ℕ) (cs : List ℕ) (p : ℕ) → At bs p → drop p bs ≡ encodes cs ++ drop q bs → p + length (encodes cs) ≡ q → Free (stopsIn b) bs p q → Part b (utf8 bs) p (Some (utf16s cs)) [] false q
 run b bs q [] p a e l f = subst (λ (z : ℕ). Part b (utf8 bs) p (Some []) [] false z) (omega arith) (no-step b (utf8 bs) p)
@@ -147,7 +149,7 @@ run b bs q (c ∷ cs) p a e l f =
     let m = length-append (encode c) (encodes cs) in
     let first : getD (drop p bs) 0 0 ≡ getD bs p 0 = getD-drop p bs 0 0 ∙ ap (λ (z : ℕ). getD bs z 0) (let i : p + 0 ≡ p = omega arith in i) in
     let free : stopsIn b c ≡ false =
-      ⊎-elim (λ k. sym (ap (stopsIn b) (sym first ∙ byte-from-char (drop p bs) (encodes cs ++ drop q bs) c g k)) ∙ f p (omega arith) (omega arith)) (λ k. high-free b c k) (cases-lt c 128) in
+    ⊎-elim (λ k. sym (ap (stopsIn b) (sym first ∙ byte-from-char (drop p bs) (encodes cs ++ drop q bs) c g k)) ∙ f p (omega arith) (omega arith)) (λ k. high-free b c k) (cases-lt c 128) in
     part-join b (utf8 bs) p (p + width c) q (Some (utf16 c)) (Some (utf16s cs)) [] [] false false (plain-char b (utf8 bs) p c (p + width c) s free)
     (run b bs q cs (p + width c) x d (omega arith) (λ k i j. f k (omega arith) j))
 

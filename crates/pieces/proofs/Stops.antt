@@ -7,6 +7,7 @@ use mathlib.Core.List.{List, [], _∷_}
 use native.Mathlib.Omega.{arith}
 use lib.Dec.{T, eqb}
 use lib.ListN.{length, getD, drop}
+use Rattle.std.specs.Text.{Utf8}
 use Rattle.std.specs.Words.{Boundary}
 use Rattle.std.specs.declared.option.Option.the-variants.{Some, None}
 use Rattle.std.proofs.shelf.Tests.{eqb-true, ne-eqb}
@@ -22,6 +23,8 @@ use Rattle.grammar.proofs.Ascii.{lookahead-not-at}
 use Rattle.grammar.proofs.Leaves.{takes}
 use Rattle.stops.specs.First.{Free, StopAt}
 use Rattle.source.specs.Fronts.{Begins}
+use Rattle.source.specs.Texts.{WellFormed}
+use Rattle.source.proofs.Known.{utf8-from}
 use Rattle.escapes.specs.Places.{At, Here}
 use Rattle.escapes.specs.Escapes.{isTemplate, unitsTold, faultsTold, reached, EscapeRead}
 use Rattle.escapes.specs.declared.unicode.Escape.{Escape}
@@ -29,7 +32,10 @@ use Rattle.escapes.proofs.Looks.{here, over-at, two-here, second-ahead}
 use Rattle.escapes.proofs.Nodes.{stop}
 use Rattle.escapes.proofs.Parts.{one-step}
 use Rattle.pieces.specs.Plain.{Plain}
-use Rattle.pieces.specs.Pieces.{GoesOn, Ends, stopsIn}
+use Rattle.pieces.specs.Pieces.{GoesOn, Ends, stopsIn, StopRead, PieceRead}
+use Rattle.pieces.specs.declared.piece.Stop.{Stop}
+use Rattle.pieces.specs.declared.piece.Stop.the-variants.{End}
+use Rattle.pieces.specs.declared.piece.Ending.the-variants.{TextEnd}
 use Rattle.pieces.proofs.Plains.{plain, is}
 
 -- an ending, from the match of its rule
@@ -43,7 +49,6 @@ unless : (t : Text) (q b : ℕ) → Ahead (t q) (but (points (b ∷ []))) true �
 unless t q b h = (refl, refl, h)
 
 module _ (bs : List ℕ) (p : ℕ) where
-
   -- TEMPLATES
 
   pub raw-crlf : (q : ℕ) → Here bs p 13 → Begins 13 10 (drop p bs) × (q ≡ p + 2) → GoesOn template bs p (Some (10 ∷ [])) [] true q
@@ -64,7 +69,7 @@ module _ (bs : List ℕ) (p : ℕ) where
   lone-dollar h n =
       record {
         part = one-step template (utf8 bs) (grammar.proper dollar) p (p + 1) (36 ∷ [])
-          (_, _, _, h .step, refl, tt, (refl, refl, lookahead-not-at bs (p + 1) (chars "{") tt (h .at .text) (λ l k. n l (same (getD bs (p + 1) 0) k))));
+            (_, _, _, h .step, refl, tt, (refl, refl, lookahead-not-at bs (p + 1) (chars "{") tt (h .at .text) (λ l k. n l (same (getD bs (p + 1) 0) k))));
         behind = h .behind;
         moves = omega arith;
       }
@@ -165,3 +170,27 @@ pub end-plain : (b : Body) (bs : List ℕ) (p : ℕ) → At bs p → Free (stops
 end-plain b bs p a f =
     let x = plain b bs p (length bs) a (boundary-end bs) (a .boundary .0) f in
     (x, text-end bs (length bs) b (x .behind) (over-at bs (length bs) refl))
+
+-- A PIECE, with the bytes and the place of its cursor as calls told them
+
+module _ (b : Body) (bs bs′ : List ℕ) (p p′ : ℕ) (e : bs′ ≡ bs) (f : p′ ≡ p) (w : WellFormed bs) (k : Boundary bs p) where
+  at-cursor : At bs p
+  at-cursor = record { text = utf8-from bs w; boundary = k }
+
+  found : (place byte : ℕ) → StopAt (stopsIn b) bs′ p′ place byte → (Utf8 bs′ → Boundary bs′ p′ → Boundary bs′ place) → StopAt (stopsIn b) bs p place byte × Boundary bs place
+  found place byte s d =
+      let s₁ = subst (λ (z : ℕ). StopAt (stopsIn b) bs z place byte) f (subst (λ (z : List ℕ). StopAt (stopsIn b) z p′ place byte) e s) in
+      let d₁ = subst (λ (z : ℕ). Utf8 bs → Boundary bs z → Boundary bs place) f (subst (λ (z : List ℕ). Utf8 z → Boundary z p′ → Boundary z place) e d) in
+      (s₁, d₁ (utf8-from bs w) k)
+
+  pub stop-met : (place byte : ℕ) → StopAt (stopsIn b) bs′ p′ place byte → (Utf8 bs′ → Boundary bs′ p′ → Boundary bs′ place) → Here bs place byte × (stopsIn b byte ≡ true)
+  stop-met place byte s d = let (s₁, d₁) = found place byte s d in (stop-here b bs p place byte at-cursor s₁ d₁, s₁ .stop)
+
+  pub piece-some : (place byte : ℕ) (x : Stop) → StopAt (stopsIn b) bs′ p′ place byte → (Utf8 bs′ → Boundary bs′ p′ → Boundary bs′ place) → StopRead b bs place x → PieceRead b bs p place x
+  piece-some place byte x s d y = let (s₁, d₁) = found place byte s d in record { plain = plain b bs p place at-cursor d₁ (s₁ .behind) (s₁ .first); stop = y }
+
+  pub piece-none : (bs″ : List ℕ) → bs″ ≡ bs → Free (stopsIn b) bs′ p′ (length bs′) → PieceRead b bs p (length bs″) (End TextEnd (length bs″))
+  piece-none bs″ g r =
+      let r₁ = subst (λ (z : ℕ). Free (stopsIn b) bs z (length bs)) f (subst (λ (z : List ℕ). Free (stopsIn b) z p′ (length z)) e r) in
+      let (x, y) = end-plain b bs p at-cursor r₁ in
+      subst (λ (z : List ℕ). PieceRead b bs p (length z) (End TextEnd (length z))) (sym g) (record { plain = x; stop = y })

@@ -13,11 +13,17 @@ ghost use Rattle.stops.specs.First.{FirstStop};
 ghost use Rattle.escapes.specs.Places.{Here};
 ghost use Rattle.escapes.specs.Escapes.{isTemplate};
 ghost use Rattle.pieces.specs.Pieces.{bodyOf, stopsIn, StopRead, PieceRead};
-use escapes::unicode::{read_escape, Escape};
+use escapes::unicode::Escape;
+use escapes::unicode::read_escape;
 use source::cursor::Cursor;
 use source::fronts::behind_crlf;
 use stops::search::search;
-use stops::sets::{DoubleQuote, DoubleQuoteStops, SingleQuote, SingleQuoteStops, Template, TemplateStops};
+use stops::sets::DoubleQuote;
+use stops::sets::DoubleQuoteStops;
+use stops::sets::SingleQuote;
+use stops::sets::SingleQuoteStops;
+use stops::sets::Template;
+use stops::sets::TemplateStops;
 
 // What a literal opens with: either quote, a backtick, or the brace behind a substitution.
 #[derive(Clone, Copy)]
@@ -168,7 +174,13 @@ pub fn next_piece(cursor: Cursor<'_>, opening: Opening) -> Piece
 {
     let end = cursor.bytes().len();
     match find_stop(cursor.bytes(), cursor.place(), opening) {
-        None => Piece { to: end, stop: Stop::End(Ending::TextEnd, end) },
-        Some((place, byte)) => Piece { to: place, stop: stop_at(cursor, place, byte, opening) },
+        None => Piece {
+            to: end,
+            stop: Stop::End(Ending::TextEnd, end),
+        },
+        Some((place, byte)) => Piece {
+            to: place,
+            stop: stop_at(cursor, place, byte, opening),
+        },
     }
 }
