@@ -16,6 +16,16 @@ pub enum Refusal {
     IndexPastEnd,
     // a stop pattern against the law of stop sets
     UnlawfulPattern,
+    // no entry at the start
+    NoEntry,
+    // more faults than free fault records
+    NoRecord,
+    // a new entry and no free slot
+    NoSlot,
+    // a value to store and no free place
+    NoPlace,
+    // a load past the capacity
+    NoCapacity,
 }
 
 impl Refusal {
@@ -29,6 +39,11 @@ impl Refusal {
             Refusal::WrongOpening => 4,
             Refusal::IndexPastEnd => 5,
             Refusal::UnlawfulPattern => 6,
+            Refusal::NoEntry => 8,
+            Refusal::NoRecord => 9,
+            Refusal::NoSlot => 10,
+            Refusal::NoPlace => 11,
+            Refusal::NoCapacity => 12,
         }
     }
 }
