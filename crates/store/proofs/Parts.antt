@@ -147,3 +147,6 @@ laid-front m us h = let e : 0 + length us ≡ length us = omega arith in laid-is
 
 pub laid-two : (m : List ℕ) (n u v : ℕ) (us : List ℕ) → laid (set (set m n u) (n + 1) v) (n + 2) us ≡ laid m n (u ∷ v ∷ us)
 laid-two m n u v us = let e : n + 2 ≡ n + 1 + 1 = omega arith in ap (λ k. laid (set (set m n u) (n + 1) v) k us) e
+
+pub laid-one : (m us : List ℕ) (i : ℕ) (t : List ℕ) → i < length us → laid m i (drop i us) ≡ t → laid (set m i (getD us i 0)) (i + 1) (drop (i + 1) us) ≡ t
+laid-one m us i t h f = ap (laid m i) (sym (drop-more us i 0 h)) ∙ f

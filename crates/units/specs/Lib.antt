@@ -1,0 +1,4 @@
+pub mod Meaning
+pub mod Views
+pub mod Steps
+pub mod Law
