@@ -5,7 +5,7 @@ ghost use Prim.Native.Nat.{_≤_, _<_};
 ghost use lib.ListN.{length, take, getD};
 ghost use Rattle.std.specs.Results.{Cases};
 ghost use Rattle.std.specs.declared.result.Result.the-variants.{Ok, Err};
-ghost use denote.Ref.{now as behind};
+ghost use denote.Ref.{now as behind, name};
 ghost use Rattle.refusals.specs.Numbers.{numberOf, numbered};
 ghost use Rattle.store.specs.Held.{fits, with-unit, has-place, closed, dropped, overlaid, unit-told};
 ghost use Rattle.store.specs.Cuts.{final};
@@ -28,6 +28,7 @@ pub impl<'a> ValueStore for Units<'a> as UnitsStore {
         ensures answer { λ r. ⌜ numbered r ≡ cond (fits length (meaning (now (self .entry))) unit) (Ok tt) (Err 12) ⌝ }
         ensures after { λ _. ⌜ meaning (now (self .exit)) ≡ cond (fits length (meaning (now (self .entry))) unit) (with-unit (meaning (now (self .entry))) unit) (meaning (now (self .entry))) ⌝ }
         ensures leaves { λ _. ⌜ Put-leaves (fits length (meaning (now (self .entry))) unit) (finished (now (self .entry))) (cells (now (self .entry))) (cells (now (self .exit))) (ends (now (self .entry))) (ends (now (self .exit))) ⌝ }
+        ensures lent { λ _. ⌜ (name (now (self .exit) .memory) ≡ name (now (self .entry) .memory)) × (name (now (self .exit) .ends) ≡ name (now (self .entry) .ends)) ⌝ }
     {
         let used = self.used;
         if used >= self.capacity() {
@@ -42,6 +43,7 @@ pub impl<'a> ValueStore for Units<'a> as UnitsStore {
         ensures answer { λ r. ⌜ numbered r ≡ cond (has-place (meaning (now (self .entry)))) (Ok (length (meaning (now (self .entry)) .values))) (Err 11) ⌝ }
         ensures after { λ _. ⌜ meaning (now (self .exit)) ≡ cond (has-place (meaning (now (self .entry)))) (closed (meaning (now (self .entry)))) (meaning (now (self .entry))) ⌝ }
         ensures leaves { λ _. ⌜ Close-leaves (has-place (meaning (now (self .entry)))) (now (self .entry) .count) (cells (now (self .entry))) (cells (now (self .exit))) (ends (now (self .entry))) (ends (now (self .exit))) ⌝ }
+        ensures lent { λ _. ⌜ (name (now (self .exit) .memory) ≡ name (now (self .entry) .memory)) × (name (now (self .exit) .ends) ≡ name (now (self .entry) .ends)) ⌝ }
     {
         let n = self.count;
         if n >= self.places() {
@@ -55,6 +57,7 @@ pub impl<'a> ValueStore for Units<'a> as UnitsStore {
     fn drop_open(&mut self)
         ensures after { λ _. ⌜ meaning (now (self .exit)) ≡ dropped (meaning (now (self .entry))) ⌝ }
         ensures leaves { λ _. ⌜ Leaves-all (cells (now (self .entry))) (cells (now (self .exit))) (ends (now (self .entry))) (ends (now (self .exit))) ⌝ }
+        ensures lent { λ _. ⌜ (name (now (self .exit) .memory) ≡ name (now (self .entry) .memory)) × (name (now (self .exit) .ends) ≡ name (now (self .entry) .ends)) ⌝ }
     {
         self.used = self.open_start();
     }

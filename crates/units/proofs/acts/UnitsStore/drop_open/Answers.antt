@@ -6,4 +6,4 @@ pub ghost-self : need.ghost-self
 ghost-self c = drop-kept (c .args .self .now) _ (c .open-start-self .ensures)
 
 pub returns : need.returns
-returns c = record { after = drop-is (c .args .self .now) _ (c .open-start-self .ensures); leaves = record { same-cells = refl; same-places = refl } }
+returns c = record { after = drop-is (c .args .self .now) _ (c .open-start-self .ensures); leaves = record { same-cells = refl; same-places = refl }; lent = (refl, refl) }
