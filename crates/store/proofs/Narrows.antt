@@ -10,7 +10,7 @@ use Rattle.std.proofs.shelf.Lists.{take-more-set, take-take, length-take}
 use Rattle.std.proofs.shelf.Tests.{ltb-true, lt-ltb, and-parts, and-from}
 use Rattle.store.specs.Held.{Narrow, All-narrow}
 use Rattle.store.specs.Cuts.{part, cut, final, ordered, narrow}
-use Rattle.store.proofs.Parts.{step, final-within}
+use Rattle.store.proofs.Parts.{step, final-within, take-drop-swap}
 
 pub narrow-append : (us vs : List ℕ) → Narrow us → Narrow vs → Narrow (us ++ vs)
 narrow-append [] vs n m = m
@@ -39,16 +39,6 @@ narrow-is (u ∷ us) e = let p = and-parts (ltb u 65536) (narrow us) e in (ltb-t
 pub narrow-so : (us : List ℕ) → Narrow us → narrow us ≡ true
 narrow-so [] n = refl
 narrow-so (u ∷ us) n = and-from (ltb u 65536) (narrow us) (lt-ltb u 65536 (n .0)) (narrow-so us (n .1))
-
-take-none : (k : ℕ) → take {A = ℕ} k [] ≡ []
-take-none zero = refl
-take-none (suc k) = refl
-
-take-drop-swap : (a b : ℕ) (m : List ℕ) → take (b - a) (drop a m) ≡ drop a (take b m)
-take-drop-swap zero b m = ap (λ k. take k m) (let e : b - 0 ≡ b = omega arith in e)
-take-drop-swap (suc a) zero m = ap (λ k. take k (drop (suc a) m)) (let e : 0 - suc a ≡ 0 = omega arith in e)
-take-drop-swap (suc a) (suc b) [] = take-none (suc b - suc a)
-take-drop-swap (suc a) (suc b) (x ∷ m) = ap (λ k. take k (drop a m)) (let e : suc b - suc a ≡ b - a = omega arith in e) ∙ take-drop-swap a b m
 
 -- cells used are units, so the parts of them are
 module _ (m : List ℕ) (used : ℕ) (all : Narrow (take used m)) where

@@ -150,3 +150,17 @@ laid-two m n u v us = let e : n + 2 ≡ n + 1 + 1 = omega arith in ap (λ k. lai
 
 pub laid-one : (m us : List ℕ) (i : ℕ) (t : List ℕ) → i < length us → laid m i (drop i us) ≡ t → laid (set m i (getD us i 0)) (i + 1) (drop (i + 1) us) ≡ t
 laid-one m us i t h f = ap (laid m i) (sym (drop-more us i 0 h)) ∙ f
+
+take-none : (k : ℕ) → take {A = ℕ} k [] ≡ []
+take-none zero = refl
+take-none (suc k) = refl
+
+pub take-drop-swap : (a b : ℕ) (m : List ℕ) → take (b - a) (drop a m) ≡ drop a (take b m)
+take-drop-swap zero b m = ap (λ k. take k m) (let e : b - 0 ≡ b = omega arith in e)
+take-drop-swap (suc a) zero m = ap (λ k. take k (drop (suc a) m)) (let e : 0 - suc a ≡ 0 = omega arith in e)
+take-drop-swap (suc a) (suc b) [] = take-none (suc b - suc a)
+take-drop-swap (suc a) (suc b) (x ∷ m) = ap (λ k. take k (drop a m)) (let e : suc b - suc a ≡ b - a = omega arith in e) ∙ take-drop-swap a b m
+
+-- a part of the cells used is a part of all
+pub part-take : (m : List ℕ) (a b used : ℕ) → b ≤ used → part (take used m) a b ≡ part m a b
+part-take m a b used h = take-drop-swap a b (take used m) ∙ ap (drop a) (take-take b used m h) ∙ sym (take-drop-swap a b m)

@@ -1,0 +1,3 @@
+pub mod Trips
+pub mod Halves
+pub mod Steps

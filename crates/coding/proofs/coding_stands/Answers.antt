@@ -1,0 +1,15 @@
+use mathlib.Core.Path.{_≡_, refl, sym, subst}
+use mathlib.Core.Bool.{true}
+use lib.Utf8.{encode, scalars}
+use Rattle.std.proofs.shelf.Text.{encodes-same}
+use Rattle.coding.specs.Codes.{points}
+use Rattle.coding.specs.Bench.{Worked}
+use Rattle.coding.proofs.Trips.{units-wtf8}
+use Rattle.coding.proofs.coding_stands.Needs as need
+
+computed : Worked
+unfolding encode
+computed = record { pair = refl; turned = refl; twice = refl; plain = refl; back = refl }
+
+pub returns : need.returns
+returns c = record { cases = computed; text = λ us. (λ h. (points us, (h, refl)), λ t. subst (λ l. scalars l ≡ true) (encodes-same (t .0) (points us) (t .1 .1)) (t .1 .0)); back = units-wtf8 }

@@ -1,0 +1,5 @@
+pub mod Meaning
+pub mod Views
+pub mod Read
+pub mod Steps
+pub mod Law
