@@ -57,3 +57,10 @@ trail (u ∷ (v ∷ us)) = trail (v ∷ us)
 -- bytes that are the WTF-8 of their units are left as they are by this
 abbrev pub recode : List ℕ → List ℕ
 recode bs = wtf8 (units bs)
+
+-- where the character begins that a unit completes, and which it is: half is the unit before it where that is a high half
+abbrev pub from-of : ℕ → ℕ → ℕ → ℕ
+from-of half used u = cond (high half && low u) (used - 3) used
+
+abbrev pub code-of : ℕ → ℕ → ℕ
+code-of half u = cond (high half && low u) (join half u) u

@@ -1,5 +1,15 @@
-// WTF-8: how 16-bit units are written as bytes, and that nothing is lost.
+// WTF-8: 16-bit units as bytes, and bytes as units, with nothing lost.
 ghost use Rattle.coding.specs.Bench.{Worked, Text-when-paired, Reads-back};
+
+mod codes;
+
+pub use codes::completed;
+pub use codes::encoded;
+pub use codes::last_half;
+pub use codes::read_units;
+pub use codes::size;
+pub use codes::unit_at;
+pub use codes::unit_count;
 
 // The worked examples, when the bytes are text, and that the units are read back.
 pub fn coding_stands() -> u8

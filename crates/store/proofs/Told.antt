@@ -1,7 +1,7 @@
 -- What the questions answer, from tests on numbers. Assumes nothing.
 use mathlib.Core.Path.{_≡_, refl, sym, ap, _∙_}
 use mathlib.Core.List.{List, []}
-use mathlib.Core.Bool.{true, false}
+use mathlib.Core.Bool.{true, false, cond, _&&_}
 use Prim.Native.Nat.{ℕ, _+_, _-_, _<_, _≤_}
 use native.Mathlib.Omega.{arith}
 use lib.Dec.{leb, ltb}
@@ -10,7 +10,7 @@ use Rattle.std.proofs.shelf.Lists.{getD-take, getD-drop}
 use Rattle.std.proofs.shelf.Tests.{lt-ltb, le-ltb, lt-leb, le-leb, and-from, and-left, and-right, cond-true, cond-false}
 use Rattle.std.specs.declared.result.Result.{Result}
 use Rattle.std.specs.declared.result.Result.the-variants.{Ok, Err}
-use Rattle.store.specs.Held.{Held, unit-told, value-length-told, value-unit-told, fills}
+use Rattle.store.specs.Held.{Held, unit-told, value-length-told, value-unit-told, fills, overlaid}
 use Rattle.store.specs.Cuts.{part}
 use Rattle.store.proofs.Parts.{part-length}
 
@@ -46,3 +46,13 @@ module _ (h : Held) (n : ℕ) where
 
   pub fills-so : (k room : ℕ) → n < length (h .values) → k ≡ length (getD (h .values) n []) → k ≤ room → fills h n room ≡ true
   fills-so k room lt e le = and-from _ _ (lt-ltb _ _ lt) (le-leb (length (getD (h .values) n [])) room (omega arith))
+
+  -- a whole value read, from the same of its list
+  fills-as : (us : List ℕ) (room : ℕ) → n < length (h .values) → us ≡ getD (h .values) n [] → leb (length us) room ≡ fills h n room
+  fills-as us room lt e = ap (λ v. leb (length v) room) e ∙ sym (ap (λ b. b && leb (length (getD (h .values) n [])) room) (lt-ltb _ _ lt))
+
+  pub read-told : (us out : List ℕ) (r : Result ℕ ℕ) → n < length (h .values) → us ≡ getD (h .values) n [] → r ≡ cond (leb (length us) (length out)) (Ok (length us)) (Err 5) → r ≡ cond (fills h n (length out)) (Ok (length (getD (h .values) n []))) (Err 5)
+  read-told us out r lt e a = a ∙ (λ j. cond (fills-as us (length out) lt e j) (Ok (length (e j))) (Err 5))
+
+  pub read-after : (us out out′ : List ℕ) → n < length (h .values) → us ≡ getD (h .values) n [] → out′ ≡ cond (leb (length us) (length out)) (overlaid us out) out → out′ ≡ cond (fills h n (length out)) (overlaid (getD (h .values) n []) out) out
+  read-after us out out′ lt e a = a ∙ (λ j. cond (fills-as us (length out) lt e j) (overlaid (e j) out) out)

@@ -1,11 +1,10 @@
 -- How lent bytes and a table of ends stand for a store of WTF-8. Assumes nothing.
 use mathlib.Core.List.{List, map}
-use mathlib.Core.Bool.{cond, _&&_}
-use Prim.Native.Nat.{ℕ, _-_, min}
+use Prim.Native.Nat.{ℕ, min}
 use lib.ListN.{length, take}
 use Rattle.store.specs.Held.{Held}
 use Rattle.store.specs.Cuts.{part, cut, final}
-use Rattle.coding.specs.Codes.{high, low, join, units}
+use Rattle.coding.specs.Codes.{units}
 
 -- the bytes of the finished values, and of the open one
 abbrev pub closed-bytes : List ℕ → List ℕ → ℕ → List (List ℕ)
@@ -21,10 +20,3 @@ held-of m ends count used = record {
   places = min (length ends) 4096;
   capacity = min (length m) 1048576;
 }
-
--- where the character begins that a unit completes, and which it is: half is the unit before it where that is a high half
-abbrev pub from-of : ℕ → ℕ → ℕ → ℕ
-from-of half used u = cond (high half && low u) (used - 3) used
-
-abbrev pub code-of : ℕ → ℕ → ℕ
-code-of half u = cond (high half && low u) (join half u) u

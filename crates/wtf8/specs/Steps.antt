@@ -15,10 +15,10 @@ use Rattle.store.specs.Leaves.{Put-leaves, Close-leaves}
 use Rattle.store.proofs.Parts.{part-length, part-none, part-take, ordered-up, ordered-final, cut-set, part-set, weighed-is, length-laid, take-laid, drop-laid, part-laid, cut-laid}
 use Rattle.store.proofs.Narrows.{narrow-append}
 use Rattle.store.proofs.Tables.{start-in as first-in, number-of, cut-more, none-open, rising-more, list-at, list-in}
-use Rattle.coding.specs.Codes.{high, low, join, wtf8, weight, units, trail, recode}
+use Rattle.coding.specs.Codes.{high, low, join, wtf8, weight, units, trail, recode, from-of, code-of}
 use Rattle.coding.proofs.Trips.{narrow-units, narrow-front, units-wtf8, front, wtf8-more, wtf8-high, wtf8-join, three-bytes}
 use Rattle.wtf8.specs.declared.Wtf8.{Wtf8}
-use Rattle.wtf8.specs.Meaning.{closed-bytes, open-bytes, held-of, from-of, code-of}
+use Rattle.wtf8.specs.Meaning.{closed-bytes, open-bytes, held-of}
 use Rattle.wtf8.specs.Views.{cells, ends, finished, stored, opened, all-bytes, meaning, Is-place}
 
 weighed-units : (ps : List (List ℕ)) → weighed weight (map units ps) ≡ weighed length (map recode ps)
@@ -226,10 +226,6 @@ module _ (s : Wtf8) where
         let b = sym (ap length (more-is u)) ∙ length-append (part (cells s) (finished s) (from-of half (s .used) u)) (encode (code-of half u)) in
         let c = part-length (cells s) (finished s) (from-of half (s .used) u) (f .0) (omega (arith, f .1)) in
         omega (arith, f .0)
-
-    -- a high half at the end lies within the load
-    pub half-in : high half ≡ true → 3 ≤ (s .used)
-    half-in h = let q = before-half h in omega (arith, q .0)
 
     pub full : (u : ℕ) → min (length (cells s)) 1048576 < from-of half (s .used) u + length (encode (code-of half u)) → fits weight (meaning s) u ≡ false
     full u past = lt-leb (load weight (with-unit (meaning s) u)) (min (length (cells s)) 1048576) (let e = load-more u in omega arith)

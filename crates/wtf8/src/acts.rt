@@ -15,13 +15,13 @@ ghost use Rattle.wtf8.specs.Meaning.{held-of};
 ghost use Rattle.wtf8.specs.Views.{cells, ends, finished, opened, all-bytes, meaning, Is-place};
 ghost use Rattle.wtf8.specs.Law.{wtf8-lawful};
 use super::Wtf8;
-use super::codes::completed;
-use super::codes::copy_units;
-use super::codes::encoded;
-use super::codes::last_half;
-use super::codes::size;
-use super::codes::unit_at;
-use super::codes::unit_count;
+use coding::completed;
+use coding::encoded;
+use coding::last_half;
+use coding::read_units;
+use coding::size;
+use coding::unit_at;
+use coding::unit_count;
 use refusals::Refusal;
 use store::ValueStore;
 
@@ -115,12 +115,7 @@ pub impl<'a> ValueStore for Wtf8<'a> as Wtf8Store {
 
     fn read_value(&self, n: usize, out: &mut [u16]) -> Result<usize, Refusal> {
         let bytes = self.bytes_of(n)?;
-        let many = unit_count(bytes);
-        if many > out.len() {
-            return Err(Refusal::IndexPastEnd);
-        }
-        copy_units(bytes, out);
-        Ok(many)
+        read_units(bytes, out)
     }
 }
 
@@ -146,7 +141,7 @@ impl<'a> Wtf8<'a> {
 
     // The bytes of finished value `n`.
     pub fn bytes_of(&self, n: usize) -> Result<&[u8], Refusal>
-        ensures { λ r. ⌜ Cases r (λ b. (n < length (meaning (now (self .entry)) .values)) × (now b ≡ wtf8 (getD (meaning (now (self .entry)) .values) n [])) × (length (now b) ≤ 1048576)) (λ e. (length (meaning (now (self .entry)) .values) ≤ n) × (numberOf e ≡ 5)) ⌝ }
+        ensures { λ r. ⌜ Cases r (λ b. (n < length (meaning (now (self .entry)) .values)) × (now b ≡ wtf8 (getD (meaning (now (self .entry)) .values) n []))) (λ e. (length (meaning (now (self .entry)) .values) ≤ n) × (numberOf e ≡ 5)) ⌝ }
     {
         let Place { from, len } = self.place_of(n)?;
         let bytes = self.bytes();
@@ -155,8 +150,7 @@ impl<'a> Wtf8<'a> {
 
     // The bytes of the open value.
     pub fn open_bytes(&self) -> &[u8]
-        ensures bytes { λ r. ⌜ now r ≡ opened (now (self .entry)) ⌝ }
-        ensures short { λ r. ⌜ length (now r) ≤ 1048576 ⌝ }
+        ensures { λ r. ⌜ now r ≡ opened (now (self .entry)) ⌝ }
     {
         &self.memory[self.open_start()..self.used]
     }

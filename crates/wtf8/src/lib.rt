@@ -11,7 +11,6 @@ ghost use Rattle.coding.specs.Codes.{recode};
 ghost use Rattle.wtf8.specs.Meaning.{held-of, closed-bytes, open-bytes};
 
 mod acts;
-mod codes;
 
 pub use acts::Place;
 pub use acts::Wtf8Store;
