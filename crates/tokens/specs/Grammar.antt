@@ -6,9 +6,9 @@ use Rattle.grammar.specs.Literal as literal
 use Rattle.grammar.specs.Outcome as outcome
 use Rattle.tokens.specs.declared.Kind.{Kind}
 use Rattle.tokens.specs.declared.Kind.the-variants.{Undetermined, Str, NoSubstitutionTemplate, TemplateHead, TemplateMiddle, TemplateTail}
-use Rattle.tokens.specs.declared.FaultKind.{FaultKind}
-use Rattle.tokens.specs.declared.FaultKind.the-variants.{Unterminated, InvalidEscape}
-use Rattle.tokens.specs.declared.Fault.{Fault}
+use Rattle.faults.specs.declared.list.FaultKind.{FaultKind}
+use Rattle.faults.specs.declared.list.FaultKind.the-variants.{Unterminated, InvalidEscape}
+use Rattle.faults.specs.declared.list.Fault.{Fault}
 
 -- the token's kind of a reading: a literal that breaks off has none
 abbrev pub named : Option literal.Kind → Kind

@@ -1,11 +1,11 @@
--- The word of each kind, and the number and word of each kind of fault. Assumes nothing.
+-- The word of each kind, and of each kind of fault. Assumes nothing.
 use Prim.Native.Nat.{ℕ}
 use mathlib.Core.List.{List}
 use lib.Chars.{codes}
 use Rattle.tokens.specs.declared.Kind.{Kind}
 use Rattle.tokens.specs.declared.Kind.the-variants.{Undetermined, Str, NoSubstitutionTemplate, TemplateHead, TemplateMiddle, TemplateTail}
-use Rattle.tokens.specs.declared.FaultKind.{FaultKind}
-use Rattle.tokens.specs.declared.FaultKind.the-variants.{Unterminated, InvalidEscape}
+use Rattle.faults.specs.declared.list.FaultKind.{FaultKind}
+use Rattle.faults.specs.declared.list.FaultKind.the-variants.{Unterminated, InvalidEscape}
 
 abbrev pub wordOf : Kind → List ℕ
 wordOf Undetermined = codes "Undetermined"
@@ -14,10 +14,6 @@ wordOf NoSubstitutionTemplate = codes "NoSubstitutionTemplate"
 wordOf TemplateHead = codes "TemplateHead"
 wordOf TemplateMiddle = codes "TemplateMiddle"
 wordOf TemplateTail = codes "TemplateTail"
-
-abbrev pub faultNumberOf : FaultKind → ℕ
-faultNumberOf Unterminated = 1
-faultNumberOf InvalidEscape = 2
 
 abbrev pub faultWordOf : FaultKind → List ℕ
 faultWordOf Unterminated = codes "unterminated"

@@ -1,6 +1,7 @@
-// Tokens and faults: what a scan answers.
+// Tokens: what a scan answers. Faults have a crate of their own.
 ghost use mathlib.Core.Path.{_≡_};
-ghost use Rattle.tokens.specs.Names.{wordOf, faultNumberOf, faultWordOf};
+ghost use Rattle.tokens.specs.Names.{wordOf, faultWordOf};
+use faults::FaultKind;
 
 #[derive(Clone, Copy)]
 pub enum Kind {
@@ -36,36 +37,12 @@ pub struct Token {
     pub escaped: bool,
 }
 
-#[derive(Clone, Copy)]
-pub enum FaultKind {
-    Unterminated,
-    InvalidEscape,
-}
-
-impl FaultKind {
-    pub fn number(self) -> u8
-        ensures { λ r. ⌜ r ≡ faultNumberOf self ⌝ }
-    {
-        match self {
-            FaultKind::Unterminated => 1,
-            FaultKind::InvalidEscape => 2,
-        }
+// The word of a kind of fault.
+pub fn fault_word(kind: FaultKind) -> &'static str
+    ensures { λ r. ⌜ now r ≡ faultWordOf kind ⌝ }
+{
+    match kind {
+        FaultKind::Unterminated => "unterminated",
+        FaultKind::InvalidEscape => "invalid",
     }
-
-    pub fn word(self) -> &'static str
-        ensures { λ r. ⌜ now r ≡ faultWordOf self ⌝ }
-    {
-        match self {
-            FaultKind::Unterminated => "unterminated",
-            FaultKind::InvalidEscape => "invalid",
-        }
-    }
-}
-
-// What is wrong with a literal, from one place to another.
-#[derive(Clone, Copy)]
-pub struct Fault {
-    pub kind: FaultKind,
-    pub from: usize,
-    pub to: usize,
 }
