@@ -24,7 +24,7 @@ use Rattle.escapes.specs.Escapes.{behindRule, Alone, Joined, Wrong, Behind, Pa
 use Rattle.escapes.specs.declared.unicode.Escape.{Escape}
 use Rattle.escapes.specs.declared.unicode.Escape.the-variants.{Gives, Invalid}
 
-append-nil : {A : Type 0} (xs : List A) → xs ++ [] ≡ xs
+pub append-nil : {A : Type 0} (xs : List A) → xs ++ [] ≡ xs
 append-nil [] = refl
 append-nil (x ∷ xs) = ap (λ z. x ∷ z) (append-nil xs)
 

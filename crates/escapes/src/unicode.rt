@@ -88,8 +88,15 @@ fn lead_of(c: char, digit_behind: bool, in_template: bool) -> Lead
     }
 }
 
+// A character in UTF-16.
+pub fn units_of(c: char) -> Units
+    ensures { λ r. ⌜ listed r ≡ utf16 c ⌝ }
+{
+    code_units(c as u32)
+}
+
 // A code point in UTF-16.
-fn units_of(c: u32) -> Units
+fn code_units(c: u32) -> Units
     requires { ⌜ c < 1114112 ⌝ }
     ensures { λ r. ⌜ listed r ≡ utf16 c ⌝ }
 {
@@ -129,8 +136,8 @@ fn unicode_units(escape: UnicodeEscape) -> Units
     ensures { λ r. ⌜ listed r ≡ unicodeUnits escape ⌝ }
 {
     match escape {
-        UnicodeEscape::CodePoint(c) => units_of(c),
-        UnicodeEscape::SurrogatePair(c) => units_of(c),
+        UnicodeEscape::CodePoint(c) => code_units(c),
+        UnicodeEscape::SurrogatePair(c) => code_units(c),
         UnicodeEscape::LoneSurrogate(unit) => Units::One(unit as u16),
     }
 }
@@ -268,7 +275,7 @@ fn escape_of(bytes: &[u8], at: usize, c: char, next: usize, in_template: bool) -
         Lead::Octal(digit) => octal_escape(bytes, at, digit),
         Lead::ZeroDecimal => Escape::Invalid(next + 1),
         Lead::Decimal => Escape::Invalid(next),
-        Lead::Other => Escape::Gives(units_of(c as u32), next),
+        Lead::Other => Escape::Gives(units_of(c), next),
     }
 }
 
