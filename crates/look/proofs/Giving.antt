@@ -121,8 +121,8 @@ sofar-on bs start o at to next to′ g′ w us ls s x l y h k =
       mark = (x .mark || m) || false;
       part = part-join (bodyOf o) (utf8 bs) (start + 1) next to′ (joined (x .units) u) v (x .faults ++ fs) [] (x .mark || m) false p (y .part);
       holds =
-        holds-by (joined (joined (x .units) u) v) _ _ (append-assoc us (listed w) (utf16s (spelt bs next to′)) ∙ split us ls (pending s) (listed w) (utf16s (spelt bs next to′)) k)
-        (holds-join (joined (x .units) u) v (us ++ listed w) (utf16s (spelt bs next to′)) (holds-join (x .units) u us (listed w) first z) (holds-self (utf16s (spelt bs next to′))));
+          holds-by (joined (joined (x .units) u) v) _ _ (append-assoc us (listed w) (utf16s (spelt bs next to′)) ∙ split us ls (pending s) (listed w) (utf16s (spelt bs next to′)) k)
+          (holds-join (joined (x .units) u) v (us ++ listed w) (utf16s (spelt bs next to′)) (holds-join (x .units) u us (listed w) first z) (holds-self (utf16s (spelt bs next to′))));
       here = on .behind;
       there = y .behind;
       order = y .order;
@@ -156,7 +156,7 @@ gave-by s bs o at to g start us a b c d e x =
     let x₄ = subst (λ z. Sofar (s .cursor .bytes .now) start (s .opening) (s .cursor .place .at) z g (s .second) us) (sym d) x₃ in
     subst (λ z. Sofar (s .cursor .bytes .now) start (s .opening) (s .cursor .place .at) (s .to) z (s .second) us) (sym e) x₄
 
-one-pending : (s : Option ℕ) → length (pending s) ≤ 1
+pub one-pending : (s : Option ℕ) → length (pending s) ≤ 1
 one-pending None = omega arith
 one-pending (Some u) = omega arith
 

@@ -1,4 +1,6 @@
+pub mod Counting
 pub mod Giving
 pub mod Going
+pub mod Looking
 pub mod Running
 pub mod Spelt

@@ -94,10 +94,11 @@ pub reached-on :
     → (bs′ ≡ bs₀) × (r .faults ≤ p′) × ((start : ℕ) → Opened bs′ start o → p₀ ≡ start + 1 → Upto bs′ start o p′ r)
 reached-on bs₀ bs bs′ o p₀ p q p′ t r w e f m y h k l x =
     let (_, a, n, i) = piece-moves (bodyOf o) bs p q w y h in
-    let g = m (a .boundary) in
-    ( f ∙ e
-    , omega (arith, k .0, one-more w)
-    , λ start z j. subst (λ c. Upto c start o p′ r) (sym f) (subst (λ c. Upto bs start o c r) (sym g) (upto-on bs start o p q t r w (x start (subst (λ c. Opened c start o) f z) j) y h k)) )
+    let g = m (a .boundary) in (
+      f ∙ e,
+      omega (arith, k .0, one-more w),
+      λ start z j. subst (λ c. Upto c start o p′ r) (sym f) (subst (λ c. Upto bs start o c r) (sym g) (upto-on bs start o p q t r w (x start (subst (λ c. Opened c start o) f z) j) y h k)),
+    )
 
 pub ran :
     (bs₀ bs : List ℕ) (o : Opening) (p₀ p q : ℕ) (r : Run) → bs ≡ bs₀ → Plain (bodyOf o) bs p q → Ends (bodyOf o) bs q (endingOf (r .ending)) (r .end) → r .tally .faults ≤ p

@@ -30,8 +30,10 @@ first bs p q a b l = go (spelt bs p q) refl
   where
     w : Utf8 (take (q - p) (drop p bs))
     w = utf8-between bs p q (a .text) (omega arith) (a .boundary) (b .boundary)
+
     s : (drop p bs ≡ encodes (spelt bs p q) ++ drop q bs) × (p + length (encodes (spelt bs p q)) ≡ q)
     s = spelt-bytes bs p q a b (omega arith)
+
     go : (ds : List ℕ) → spelt bs p q ≡ ds → First bs p q
     go [] e = let k : p + length (encodes []) ≡ q = subst (λ (z : List ℕ). p + length (encodes z) ≡ q) e (s .1) in absurd (omega arith)
     go (d ∷ ds) e =
@@ -42,8 +44,8 @@ first bs p q a b l = go (spelt bs p q) refl
         let m = length-encode d in
         let c : scalars (d ∷ ds) ≡ true = subst (λ (z : List ℕ). scalars z ≡ true) e (scalars-decodes (take (q - p) (drop p bs)) w) in
         let r : spelt bs (p + width d) q ≡ ds =
-          ap (λ (z : List ℕ). decodes (take (q - (p + width d)) z)) (drop-past-char bs (encodes ds ++ drop q bs) p d g)
-          ∙ ap decodes (take-at (encodes ds) (drop q bs) (q - (p + width d)) (omega arith)) ∙ decodes-encodes ds (and-parts (scalar d) (scalars ds) c .1) in
+        ap (λ (z : List ℕ). decodes (take (q - (p + width d)) z)) (drop-past-char bs (encodes ds ++ drop q bs) p d g)
+        ∙ ap decodes (take-at (encodes ds) (drop q bs) (q - (p + width d)) (omega arith)) ∙ decodes-encodes ds (and-parts (scalar d) (scalars ds) c .1) in
         record { head = d; step = char-spelt bs (encodes ds ++ drop q bs) p d a g .0; within = omega arith; rest = e ∙ ap (λ (z : List ℕ). d ∷ z) (sym r) }
 
 -- taking the character at the front

@@ -21,6 +21,11 @@ use Rattle.tokens.specs.Grammar.{named}
 use Rattle.look.specs.declared.answer.Scan.{Scan}
 use Rattle.look.specs.declared.answer.Scan.the-variants.{Str, Template, Resumption}
 use Rattle.look.specs.declared.answer.Look.{Look}
+use Rattle.pieces.specs.Pieces.{scanOf}
+use Rattle.pieces.specs.declared.piece.Opening as opening
+use Rattle.pieces.specs.declared.piece.Opening.{Opening}
+use Rattle.tokens.specs.declared.Kind as kind
+use Rattle.tokens.specs.declared.Kind.{Kind}
 
 -- the bytes that open a scan: either quote; a backtick; a closing brace
 abbrev pub opens : Scan → ℕ → Bool
@@ -49,19 +54,39 @@ stored None = 0
 stored (Some None) = 0
 stored (Some (Some us)) = length us
 
+-- the byte of an opening
+abbrev pub opener : Opening → ℕ
+opener opening.the-variants.Double = 0x22
+opener opening.the-variants.Single = 0x27
+opener opening.the-variants.Template = 0x60
+opener opening.the-variants.Resumption = 0x7D
+
+-- every kind but Undetermined
+abbrev pub terminated : Kind → Bool
+terminated kind.the-variants.Undetermined = false
+terminated kind.the-variants.Str = true
+terminated kind.the-variants.NoSubstitutionTemplate = true
+terminated kind.the-variants.TemplateHead = true
+terminated kind.the-variants.TemplateMiddle = true
+terminated kind.the-variants.TemplateTail = true
+
 -- there is a reading from the start, and the look tells its token and counts
-pub record Looked (bs : List ℕ) (start : ℕ) (s : Scan) (l : Look) : Type 0 where
+pub record LookedAt (bs : List ℕ) (start : ℕ) (o : Opening) (l : Look) : Type 0 where
   pub read : grammar.Read
   pub reading : grammar.Reading (utf8 bs) read
   pub from : read .from ≡ start
-  pub scans : suits s (read .scan) ≡ true
+  pub scans : read .scan ≡ scanOf o
   pub starts : l .token .start ≡ start
   pub ends : l .token .end ≡ endRead read
-  pub kind : l .token .kind ≡ named (kindRead read)
+  pub kinded : l .token .kind ≡ named (kindRead read)
   pub marked : l .token .escaped ≡ markRead read
   pub faulted : l .faults ≡ length (faultsRead read)
   pub cooked : l .cooked ≡ isSome (unitsRead read)
   pub counted : l .units ≡ stored (entryRead read)
+
+-- of a scan that suits
+abbrev pub Looked : List ℕ → ℕ → Scan → Look → Type 0
+Looked bs start s l = (o : Opening) × (suits s (scanOf o) ≡ true) × LookedAt bs start o l
 
 -- it accepts a kind with an end exactly when ECMA-262 derives that kind from the start to that end
 abbrev pub Accepts : List ℕ → ℕ → Look → Type 0

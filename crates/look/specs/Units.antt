@@ -86,3 +86,10 @@ abbrev pub Stepped : UnitReader → UnitReader → ℕ → List ℕ → UnitStep
 Stepped r s start us (step.the-variants.Unit u) = Gave s start (us ++ u ∷ []) × (togo s < togo r)
 Stepped r s start us step.the-variants.Nothing = Gave s start us × (togo s < togo r)
 Stepped r s start us step.the-variants.End = AllGiven (r .cursor .bytes .now) start (r .opening) us
+
+-- a number of units is that of the literal's value, if it has one
+pub record CountedUnits (bs : List ℕ) (start : ℕ) (o : Opening) (n : ℕ) : Type 0 where
+  pub read : grammar.Read
+  pub reading : grammar.Reading (utf8 bs) read
+  pub starts : read .from ≡ start
+  pub count : (us : List ℕ) → unitsRead read ≡ Some us → n ≡ length us

@@ -8,9 +8,13 @@ ghost use Rattle.tokens.specs.Grammar.{recorded};
 ghost use Rattle.pieces.specs.Pieces.{endingOf};
 ghost use Rattle.look.specs.Told.{Told, FaultStepped, due};
 ghost use Rattle.look.specs.Units.{Opened};
-use crate::go::{go_by, Go};
-use faults::{Fault, FaultKind};
-use pieces::piece::{next_piece, Ending, Opening};
+use crate::go::Go;
+use crate::go::go_by;
+use faults::Fault;
+use faults::FaultKind;
+use pieces::piece::Ending;
+use pieces::piece::Opening;
+use pieces::piece::next_piece;
 use source::cursor::Cursor;
 
 // A step through a literal's faults: one of them, none at this step, or their end.

@@ -5,8 +5,12 @@ ghost use Prim.Native.Nat.{ℕ, _+_, _<_, _^_};
 ghost use denote.Ref.{now as held};
 ghost use Rattle.look.specs.Runs.{Ran};
 ghost use Rattle.look.specs.Units.{Opened};
-use crate::go::{go_by, Go, Passed};
-use pieces::piece::{next_piece, Ending, Opening};
+use crate::go::Go;
+use crate::go::Passed;
+use crate::go::go_by;
+use pieces::piece::Ending;
+use pieces::piece::Opening;
+use pieces::piece::next_piece;
 use source::cursor::Cursor;
 
 // Counts of a part of a literal: its faults, whether a value is cooked, and whether it is marked.
@@ -42,7 +46,11 @@ pub fn run_through(cursor: Cursor<'_>, opening: Opening) -> Run
     ensures { λ r. ⌜ ((start : ℕ) → Opened (held (cursor .entry .bytes)) start opening → cursor .entry .place .at ≡ start + 1 → Ran (held (cursor .entry .bytes)) start opening r) ⌝ }
 {
     let mut cursor = cursor;
-    let mut tally = Tally { faults: 0, cooked: true, marked: false };
+    let mut tally = Tally {
+        faults: 0,
+        cooked: true,
+        marked: false,
+    };
     'pieces: loop {
         let piece = next_piece(cursor, opening);
         match go_by(piece.stop, opening.in_template()) {

@@ -8,8 +8,12 @@ ghost use Rattle.grammar.specs.Literal.{Body};
 ghost use Rattle.escapes.specs.Escapes.{listed};
 ghost use Rattle.pieces.specs.Pieces.{StopRead};
 ghost use Rattle.look.specs.Units.{Opened, GivenRead, Gave, Stepped, stepUnits, pending, goesOn};
-use escapes::unicode::{units_of, Escape, Units};
-use pieces::piece::{next_piece, Opening, Stop};
+use escapes::unicode::Escape;
+use escapes::unicode::Units;
+use escapes::unicode::units_of;
+use pieces::piece::Opening;
+use pieces::piece::Stop;
+use pieces::piece::next_piece;
 use source::cursor::Cursor;
 use source::text::Text;
 

@@ -15,5 +15,5 @@ returns c =
     record {
       text = (m .text, refl);
       told = λ start us x.
-        on-told old s start us (c .first-of-step .result .0) (c .args .units) (c .args .next) (c .pre .0) (c .pre .1 .0) (c .pre .1 .1) (m .text) (m .moves) refl (p .plain) g (f .0) (f .1) x;
+          on-told old s start us (c .first-of-step .result .0) (c .args .units) (c .args .next) (c .pre .0) (c .pre .1 .0) (c .pre .1 .1) (m .text) (m .moves) refl (p .plain) g (f .0) (f .1) x;
     }

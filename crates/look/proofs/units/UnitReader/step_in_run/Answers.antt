@@ -12,5 +12,5 @@ returns-in-Some c =
     record {
       text = (m .text, refl);
       told = λ start us x.
-        run-told old s start us (c .first-of-step .result .0) (c .in-Some .c) (c .in-Some .behind) (c .pre .0) (c .pre .1) (c .in-Some .ensures tt) (m .text) (m .moves) refl refl refl (f .0 ∙ c .units-of .ensures) (f .1) x;
+          run-told old s start us (c .first-of-step .result .0) (c .in-Some .c) (c .in-Some .behind) (c .pre .0) (c .pre .1) (c .in-Some .ensures tt) (m .text) (m .moves) refl refl refl (f .0 ∙ c .units-of .ensures) (f .1) x;
     }
