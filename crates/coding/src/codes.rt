@@ -47,14 +47,15 @@ pub fn size(c: u32) -> usize
     ensures { λ r. ⌜ r ≡ length (encode c) ⌝ }
 {
     if c < 0x80 {
-        1
-    } else if c < 0x800 {
-        2
-    } else if c < 0x10000 {
-        3
-    } else {
-        4
+        return 1;
     }
+    if c < 0x800 {
+        return 2;
+    }
+    if c < 0x10000 {
+        return 3;
+    }
+    4
 }
 
 // A code point's bytes, and 0 behind them.

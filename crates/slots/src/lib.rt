@@ -3,5 +3,6 @@ mod map;
 mod unique;
 
 pub use map::Slot;
+pub use map::SlotClone;
 pub use map::SlotMap;
 pub use unique::UniqueMap;

@@ -12,5 +12,5 @@ returns-then-c-lt2048 c = sym (ap length (encode-2 (c .args .c) (c .if-c-lt128 .
 pub returns-then-c-lt65536 : need.returns-then-c-lt65536
 returns-then-c-lt65536 c = sym (ap length (encode-3 (c .args .c) (c .if-c-lt2048 .left) (c .if-c-lt65536 .taken)))
 
-pub returns-else-c-lt65536 : need.returns-else-c-lt65536
-returns-else-c-lt65536 c = sym (ap length (encode-4 (c .args .c) (c .if-c-lt65536 .left)))
+pub returns : need.returns
+returns c = sym (ap length (encode-4 (c .args .c) (c .if-c-lt65536 .left)))
