@@ -59,7 +59,8 @@ pub impl<'a> ValueStore for Units<'a> as UnitsStore {
         ensures leaves { λ _. ⌜ Leaves-all (cells (now (self .entry))) (cells (now (self .exit))) (ends (now (self .entry))) (ends (now (self .exit))) ⌝ }
         ensures lent { λ _. ⌜ (name (now (self .exit) .memory) ≡ name (now (self .entry) .memory)) × (name (now (self .exit) .ends) ≡ name (now (self .entry) .ends)) ⌝ }
     {
-        self.used = self.open_start();
+        let start = self.open_start();
+        self.used = start;
     }
 
     fn count(&self) -> usize {
