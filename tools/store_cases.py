@@ -80,7 +80,7 @@ class Store:
         return getattr(self, {"open": "open_unit"}.get(name, name))(a, b)
 
     def tell(self):
-        return ";" + "".join("".join(f" {unit:04X}" for unit in value) + "," for value in self.values + [self.open])
+        return "".join("".join(f" {unit:04X}" for unit in value) + end for value, end in [(value, ",") for value in self.values] + [(self.open, ";")])
 
 
 def unit_at(units, i):
@@ -101,7 +101,7 @@ def stores(places, size, calls):
     calls = [spelled(call) for call in calls]
     answers = "".join(f" {left.call(*call)}|{right.call(*call)}" for call in calls)
     held = b"".join(map(wtf8, right.values + [right.open])).hex().upper()
-    return line(f"stores {places} {size}", calls, answers + left.tell() + right.tell() + ";" + held), left.tell() == right.tell()
+    return line(f"stores {places} {size}", calls, answers + ";" + left.tell() + right.tell() + held), left.values == right.values
 
 
 def shown(value, optional):

@@ -10,6 +10,7 @@ use slots::SlotClone;
 use slots::UniqueMap;
 use std::alloc::Global;
 use std::error::AnyError;
+use std::fmt::Write;
 
 // How many of `many` inserts at starts from 0 on are taken.
 fn fill<V: Copy + Drop>(map: &mut UniqueMap<V>, many: usize, value: V) -> Answer {
@@ -51,27 +52,37 @@ fn find_option(map: &UniqueMap<Option<usize>>, start: usize) -> Answer {
 }
 
 // A map of numbers and one of optional numbers, in which an odd number stands for none.
-fn replay_maps(heap: Global, room: usize, calls: &str) -> Result<String, AnyError> {
-    let mut numbers = vec![in heap; Slot::new(0usize); room]?;
-    let mut options = vec![in heap; Slot::new(Some(0usize)); room]?;
-    let mut left = UniqueMap::new(numbers.as_mut_slice());
-    let mut right = UniqueMap::new(options.as_mut_slice());
-    let mut text = format!(heap, "")?;
+fn write_maps(
+    text: &mut String,
+    numbers: &mut UniqueMap<usize>,
+    options: &mut UniqueMap<Option<usize>>,
+    calls: &str,
+) -> Result<(), AnyError> {
     for call in calls.split(',') {
         let (name, a, b) = call_of(call)?;
         let optional = if b % 2 == 0 { Some(b) } else { None };
         let (number, option) = if name == "find" {
-            (find_number(&left, a), find_option(&right, a))
+            (find_number(numbers, a), find_option(options, a))
         } else {
-            (
-                act(&mut left, name, a, b),
-                act(&mut right, name, a, optional),
-            )
+            (act(numbers, name, a, b), act(options, name, a, optional))
         };
-        let pair = format!(heap, " {number}|{option}")?;
-        text.push_str(pair.as_str())?;
+        write!(text, " {number}|{option}")?;
     }
-    Ok(text)
+    Ok(())
+}
+
+// A script on two maps of `room` slots.
+pub fn replay_maps(
+    heap: Global,
+    text: &mut String,
+    room: usize,
+    calls: &str,
+) -> Result<(), AnyError> {
+    let mut numbers = vec![in heap; Slot::new(0usize); room]?;
+    let mut options = vec![in heap; Slot::new(Some(0usize)); room]?;
+    let mut left = UniqueMap::new(numbers.as_mut_slice());
+    let mut right = UniqueMap::new(options.as_mut_slice());
+    write_maps(text, &mut left, &mut right, calls)
 }
 
 fn fault_at(list: &FaultList, i: usize) -> Answer {
@@ -114,7 +125,22 @@ fn act_faults(list: &mut FaultList, name: &str, a: usize, b: usize) -> Answer {
     }
 }
 
-fn replay_faults(heap: Global, room: usize, calls: &str) -> Result<String, AnyError> {
+fn write_faults(text: &mut String, list: &mut FaultList, calls: &str) -> Result<(), AnyError> {
+    for call in calls.split(',') {
+        let (name, a, b) = call_of(call)?;
+        let answer = act_faults(list, name, a, b);
+        write!(text, " {answer}")?;
+    }
+    Ok(())
+}
+
+// A script on a list of `room` records.
+pub fn replay_faults(
+    heap: Global,
+    text: &mut String,
+    room: usize,
+    calls: &str,
+) -> Result<(), AnyError> {
     let kind = FaultKind::Unterminated;
     let blank = Fault {
         kind,
@@ -123,21 +149,5 @@ fn replay_faults(heap: Global, room: usize, calls: &str) -> Result<String, AnyEr
     };
     let mut records = vec![in heap; blank; room]?;
     let mut list = FaultList::new(records.as_mut_slice());
-    let mut text = format!(heap, "")?;
-    for call in calls.split(',') {
-        let (name, a, b) = call_of(call)?;
-        let answer = act_faults(&mut list, name, a, b);
-        let word = format!(heap, " {answer}")?;
-        text.push_str(word.as_str())?;
-    }
-    Ok(text)
-}
-
-// A script on two maps of `room` slots, or on a list of `room` records.
-pub fn replay(heap: Global, kind: &str, room: usize, calls: &str) -> Result<String, AnyError> {
-    match kind {
-        "maps" => replay_maps(heap, room, calls),
-        "faults" => replay_faults(heap, room, calls),
-        _ => Err("no such kind of script".into()),
-    }
+    write_faults(text, &mut list, calls)
 }

@@ -20,12 +20,33 @@ fn call_of(words: &str) -> Result<(&str, usize, usize), AnyError> {
 }
 
 // The answers to a script's calls, and whether two stores told the same values at its end.
-fn replay_script(heap: Global, head: &str, calls: &str) -> Result<(String, bool), AnyError> {
+fn replay_script(
+    heap: Global,
+    text: &mut String,
+    head: &str,
+    calls: &str,
+) -> Result<bool, AnyError> {
     let (kind, a, b) = call_of(head)?;
-    if kind == "stores" {
-        return stores::replay(heap, a, b, calls);
+    match kind {
+        "stores" => return stores::replay(heap, text, a, b, calls),
+        "maps" => lists::replay_maps(heap, text, a, calls)?,
+        "faults" => lists::replay_faults(heap, text, a, calls)?,
+        _ => return Err("no such kind of script".into()),
     }
-    Ok((lists::replay(heap, kind, a, calls)?, false))
+    Ok(false)
+}
+
+// Whether the answers of a line's calls are those that it expects, and whether two stores told the same values.
+fn replay_line(heap: Global, line: &str) -> Result<(bool, bool), AnyError> {
+    let Some((script, expected)) = line.split_once('=') else {
+        return Err("a line has no answers".into());
+    };
+    let Some((head, calls)) = script.split_once(':') else {
+        return Err("a line has no calls".into());
+    };
+    let mut text = format!(heap, "")?;
+    let same = replay_script(heap, &mut text, head, calls)?;
+    Ok((text.as_str() == expected, same))
 }
 
 fn replay(rt: &LibcRuntime) -> Result<(), AnyError> {
@@ -33,20 +54,14 @@ fn replay(rt: &LibcRuntime) -> Result<(), AnyError> {
     let mut agree = 0u64;
     let mut alike = 0u64;
     for line in text.as_str().lines() {
-        let Some((script, expected)) = line.split_once('=') else {
-            return Err("a line has no answers".into());
-        };
-        let Some((head, calls)) = script.split_once(':') else {
-            return Err("a line has no calls".into());
-        };
-        let (told, same) = replay_script(rt.alloc(), head, calls)?;
-        if same {
-            alike = alike.saturating_add(1);
-        }
-        if told.as_str() == expected {
+        let (agrees, same) = replay_line(rt.alloc(), line)?;
+        if agrees {
             agree = agree.saturating_add(1);
         } else {
-            println!(rt, "differs: {script}, told:{told}")?;
+            println!(rt, "differs: {line}")?;
+        }
+        if same {
+            alike = alike.saturating_add(1);
         }
     }
     println!(rt, "{agree} scripts agree")?;

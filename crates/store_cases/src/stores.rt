@@ -6,6 +6,7 @@ use super::answer::unit;
 use super::call_of;
 use std::alloc::Global;
 use std::error::AnyError;
+use std::fmt::Write;
 use store::ValueStore;
 use store::keep;
 use units::Units;
@@ -48,63 +49,77 @@ fn place(store: &Wtf8, n: usize) -> Answer {
     }
 }
 
-// The units of finished value `n`, read at once.
-fn value_of<S: ValueStore>(heap: Global, store: &S, n: usize) -> Result<Vec<u16>, AnyError> {
-    let mut units = vec![in heap; 0u16; store.value_len(n).unwrap_or(0)]?;
-    let _ = store.read_value(n, units.as_mut_slice());
-    Ok(units)
-}
-
-// The units of the open value.
-fn open_of<S: ValueStore>(heap: Global, store: &S) -> Result<Vec<u16>, AnyError> {
-    let mut units = Vec::new(heap);
-    for i in 0..store.open_len() {
-        units.push(store.open_unit(i).unwrap_or(0))?;
-    }
-    Ok(units)
-}
-
-fn write_units(heap: Global, text: &mut String, units: &[u16]) -> Result<(), AnyError> {
-    for unit in units {
-        let unit = *unit;
-        let word = format!(heap, " {unit:04X}")?;
-        text.push_str(word.as_str())?;
-    }
-    text.push_str(",")?;
+fn write_unit(text: &mut String, unit: u16) -> Result<(), AnyError> {
+    write!(text, " {unit:04X}")?;
     Ok(())
 }
 
-// All that a store tells of its values: the finished ones, then the open one.
-fn told<S: ValueStore>(heap: Global, store: &S) -> Result<String, AnyError> {
-    let mut text = format!(heap, ";")?;
+// The finished values, each read at once, then the open one, unit by unit.
+fn write_values<S: ValueStore>(text: &mut String, store: &S) -> Result<(), AnyError> {
     for n in 0..store.count() {
-        let units = value_of(heap, store, n)?;
-        write_units(heap, &mut text, units.as_slice())?;
+        let mut units = [0u16; 64];
+        let many = store.read_value(n, &mut units).unwrap_or(0);
+        write_units(text, &units, many)?;
     }
-    let open = open_of(heap, store)?;
-    write_units(heap, &mut text, open.as_slice())?;
-    Ok(text)
+    write_open(text, store)
+}
+
+fn write_units(text: &mut String, units: &[u16], many: usize) -> Result<(), AnyError> {
+    for unit in units.iter().take(many) {
+        write_unit(text, *unit)?;
+    }
+    write!(text, ",")?;
+    Ok(())
+}
+
+fn write_open<S: ValueStore>(text: &mut String, store: &S) -> Result<(), AnyError> {
+    for i in 0..store.open_len() {
+        write_unit(text, store.open_unit(i).unwrap_or(0))?;
+    }
+    write!(text, ";")?;
+    Ok(())
 }
 
 // All stored bytes of a WTF-8 store.
-fn told_bytes(heap: Global, store: &Wtf8) -> Result<String, AnyError> {
-    let mut text = format!(heap, ";")?;
+fn write_bytes(text: &mut String, store: &Wtf8) -> Result<(), AnyError> {
     for byte in store.bytes() {
         let byte = *byte;
-        let word = format!(heap, "{byte:02X}")?;
-        text.push_str(word.as_str())?;
+        write!(text, "{byte:02X}")?;
     }
-    Ok(text)
+    Ok(())
+}
+
+// Whether two stores tell the same of value `n`.
+fn same_value<A: ValueStore, B: ValueStore>(a: &A, b: &B, n: usize) -> bool {
+    let many = a.value_len(n).unwrap_or(0);
+    if b.value_len(n).unwrap_or(0) != many {
+        return false;
+    }
+    for i in 0..many {
+        if a.value_unit(n, i).unwrap_or(0) != b.value_unit(n, i).unwrap_or(0) {
+            return false;
+        }
+    }
+    true
+}
+
+// Whether two stores tell the same finished values.
+fn same_values<A: ValueStore, B: ValueStore>(a: &A, b: &B) -> bool {
+    for n in 0..a.count() {
+        if !same_value(a, b, n) {
+            return false;
+        }
+    }
+    a.count() == b.count()
 }
 
 // What both makes answer to the calls.
-fn answers(
-    heap: Global,
+fn write_answers(
+    text: &mut String,
     units: &mut Units,
     wtf8: &mut Wtf8,
     calls: &str,
-) -> Result<String, AnyError> {
-    let mut text = format!(heap, "")?;
+) -> Result<(), AnyError> {
     for call in calls.split(',') {
         let (name, a, b) = call_of(call)?;
         let left = act(units, name, a, b);
@@ -113,41 +128,39 @@ fn answers(
         } else {
             act(wtf8, name, a, b)
         };
-        let pair = format!(heap, " {left}|{right}")?;
-        text.push_str(pair.as_str())?;
+        write!(text, " {left}|{right}")?;
     }
-    Ok(text)
+    write!(text, ";")?;
+    Ok(())
 }
 
-// The same, then all values of the 16-bit make and all bytes of the WTF-8 make, and whether both tell the same values.
+// The same, then the values of both makes and all bytes of the WTF-8 make, and whether both tell the same values.
 fn compare(
-    heap: Global,
+    text: &mut String,
     units: &mut Units,
     wtf8: &mut Wtf8,
     calls: &str,
-) -> Result<(String, bool), AnyError> {
-    let mut text = answers(heap, units, wtf8, calls)?;
-    let left = told(heap, units)?;
-    let right = told(heap, wtf8)?;
-    let bytes = told_bytes(heap, wtf8)?;
-    text.push_str(left.as_str())?;
-    text.push_str(right.as_str())?;
-    text.push_str(bytes.as_str())?;
-    Ok((text, left.as_str() == right.as_str()))
+) -> Result<bool, AnyError> {
+    write_answers(text, units, wtf8, calls)?;
+    write_values(text, units)?;
+    write_values(text, wtf8)?;
+    write_bytes(text, wtf8)?;
+    Ok(same_values(units, wtf8))
 }
 
 // A script on stores of as many units as bytes: `size` of each.
 pub fn replay(
     heap: Global,
+    text: &mut String,
     places: usize,
     size: usize,
     calls: &str,
-) -> Result<(String, bool), AnyError> {
+) -> Result<bool, AnyError> {
     let mut memory = vec![in heap; 0xFFFFu16; size]?;
     let mut ends = vec![in heap; 99usize; places]?;
     let mut more_memory = vec![in heap; 0xFFu8; size]?;
     let mut more_ends = vec![in heap; 99usize; places]?;
     let mut units = Units::new(memory.as_mut_slice(), ends.as_mut_slice());
     let mut wtf8 = Wtf8::new(more_memory.as_mut_slice(), more_ends.as_mut_slice());
-    compare(heap, &mut units, &mut wtf8, calls)
+    compare(text, &mut units, &mut wtf8, calls)
 }
