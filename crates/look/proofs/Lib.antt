@@ -1,4 +1,5 @@
 pub mod Counting
+pub mod Faulting
 pub mod Giving
 pub mod Going
 pub mod Looking
