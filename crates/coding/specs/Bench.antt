@@ -1,10 +1,13 @@
 -- Worked examples of WTF-8, when its bytes are text, and the way back. Assumes nothing.
 use mathlib.Core.Path.{_≡_}
-use mathlib.Core.List.{List, [], _∷_}
+use mathlib.Core.List.{List, [], _∷_, map}
 use mathlib.Core.Bool.{true}
 use Prim.Native.Nat.{ℕ}
 use lib.Utf8.{scalars}
+use Rattle.std.specs.declared.option.Option.{Option}
+use Rattle.std.specs.declared.option.Option.the-variants.{Some, None}
 use Rattle.std.specs.Text.{Utf8}
+use Rattle.grammar.specs.Bench.{Case, bench, Bench-stands}
 use Rattle.store.specs.Held.{Narrow}
 use Rattle.coding.specs.Codes.{points, wtf8, units}
 
@@ -22,3 +25,26 @@ Text-when-paired = (us : List ℕ) → (scalars (points us) ≡ true → Utf8 (w
 -- no unit is lost
 abbrev pub Reads-back : Type 0
 Reads-back = (us : List ℕ) → Narrow us → units (wtf8 us) ≡ us
+
+-- the bench's values as WTF-8: the literals are read as listed, and the bytes of each one's value are these
+abbrev pub stored : Option (List ℕ) → Option (List ℕ)
+stored (Some us) = Some (wtf8 us)
+stored None = None
+
+abbrev pub in-bytes : List (Option (List ℕ))
+in-bytes =
+    Some (0x61 ∷ 0x41 ∷ [])
+    ∷ Some (0x00 ∷ 0x38 ∷ [])
+    ∷ Some (0x27 ∷ 0x37 ∷ [])
+    ∷ Some (0xF0 ∷ 0x9F ∷ 0x98 ∷ 0x80 ∷ [])
+    ∷ Some (0xF0 ∷ 0x9F ∷ 0x98 ∷ 0x80 ∷ [])
+    ∷ Some (0x7D ∷ [])
+    ∷ Some (0x61 ∷ 0x62 ∷ [])
+    ∷ Some []
+    ∷ Some (0x61 ∷ 0x0A ∷ 0x62 ∷ [])
+    ∷ None
+    ∷ Some (0x61 ∷ 0x24 ∷ [])
+    ∷ []
+
+abbrev pub Bench-in-bytes : Type 0
+Bench-in-bytes = Bench-stands × (map (λ c. stored (c .told .units)) bench ≡ in-bytes)
