@@ -228,7 +228,7 @@ pub(crate) static DOUBLE_QUOTE: [bool; 256] = [
     false,
     false,
     false,
-    false,
+    false, // E2, which begins LS and PS
     false,
     false,
     false,
