@@ -2,3 +2,4 @@ pub mod Calls
 pub mod Ledger
 pub mod Life
 pub mod Laws
+pub mod Worked
