@@ -3,5 +3,6 @@ pub mod answer;
 pub mod faulty;
 pub mod go;
 pub mod look;
+pub mod readers;
 pub mod run;
 pub mod units;

@@ -26,7 +26,7 @@ use tokens::Kind;
 use tokens::Token;
 
 // What a byte opens, in a scan.
-fn opening_at(byte: u8, scan: Scan) -> Option<Opening>
+pub(crate) fn opening_at(byte: u8, scan: Scan) -> Option<Opening>
     ensures { λ r. ⌜ Cases r (opens scan byte ≡ false) (λ o. (opens scan byte ≡ true) × (byte ≡ opener o) × (suits scan (scanOf o) ≡ true)) ⌝ }
 {
     match scan {
@@ -107,7 +107,7 @@ fn units_to_store(cursor: Cursor<'_>, opening: Opening, stored: bool) -> usize
 }
 
 // A cursor behind the opening byte.
-fn behind_opening(text: Text<'_>, start: usize, opening: Opening) -> Cursor<'_>
+pub(crate) fn behind_opening(text: Text<'_>, start: usize, opening: Opening) -> Cursor<'_>
     requires { ⌜ start < length (held (text .bytes)) ⌝ ∗ ⌜ getD (held (text .bytes)) start 0 ≡ opener opening ⌝ }
     ensures bytes { λ r. ⌜ held (r .bytes) ≡ held (text .entry .bytes) ⌝ }
     ensures place { λ r. ⌜ r .place .at ≡ start + 1 ⌝ }

@@ -1,3 +1,4 @@
 pub mod Views
 pub mod Replies
 pub mod Calls
+pub mod Scans

@@ -13,6 +13,7 @@ use slots::SlotMap;
 use store::ValueStore;
 
 mod questions;
+mod scans;
 
 // What a session holds: an entry for each escaped literal, by its start, and the faults. A string's entry is the number of its value; a template's may be none.
 #[derive(Drop)]
