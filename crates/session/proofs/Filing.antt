@@ -7,7 +7,7 @@ use Prim.Native.Nat.{ℕ, _<_, _≤_}
 use native.Mathlib.Omega.{arith}
 use lib.Dec.{ltb}
 use lib.ListN.{length, drop}
-use Rattle.std.proofs.shelf.Tests.{lt-ltb, le-ltb, cond-true, cond-false}
+use Rattle.std.proofs.shelf.Tests.{lt-ltb, le-ltb, cond-true, cond-false, true≢false}
 use Rattle.std.specs.Options.{isSome}
 use Rattle.std.specs.declared.option.Option.{Option}
 use Rattle.std.specs.declared.option.Option.the-variants.{Some, None}
@@ -62,3 +62,17 @@ module _ {V : Type 0} (holds : Option ℕ → V → Type 0) (w : List ℕ → �
   filed (Ok t) x′ h′ o v is free none put answer after past room =
       (o, v, is, put, record { free = free; entries = after ∙ cond-true _ _ _ free ∙ cond-false _ _ _ none; past = past; room = room })
   filed (Err e) x′ h′ o v is free none put answer after past room = let z : _≡_ {A = Result (Unit {0}) ℕ} (Err (numberOf e)) (Ok tt) = answer ∙ cond-true _ _ _ free in let y : _≡_ {A = ℕ} 0 1 = cc in absurd (omega arith)
+
+-- a value or none, by whether one is cooked
+
+pub uncooked : (w : List ℕ → ℕ) (h : Held) (u : Option (List ℕ)) → isSome u ≡ false → Put w h u None h
+uncooked w h None e = (refl, refl)
+uncooked w h (Some us) e = absurd (true≢false e)
+
+pub put-by : (w : List ℕ → ℕ) (h : Held) (u : Option (List ℕ)) (n : ℕ) (h′ : Held) → isSome u ≡ true → ((us : List ℕ) → u ≡ Some us → (Ok n ≡ keep-told w h us) × (h′ ≡ kept w h us)) → Put w h u (Some n) h′
+put-by w h None n h′ e f = absurd (true≢false (sym e))
+put-by w h (Some us) n h′ e f = let p = f us refl in stored w h us n h′ (p .0) (p .1)
+
+pub unput-by : (w : List ℕ → ℕ) (h : Held) (u : Option (List ℕ)) (n : ℕ) (h′ : Held) → isSome u ≡ true → ((us : List ℕ) → u ≡ Some us → (Err n ≡ keep-told w h us) × (h′ ≡ kept w h us)) → Unput w h u n h′
+unput-by w h None n h′ e f = absurd (true≢false (sym e))
+unput-by w h (Some us) n h′ e f = let p = f us refl in unstored w h us n h′ (p .0) (p .1)

@@ -165,6 +165,31 @@ module _ (w : List ℕ → ℕ) (nothing : w [] ≡ 0) (text : List ℕ) (k : Sc
                 string-by (needs-entry (ledger-of x (dropped h)) r) us z a str ok is refl
                 (subst (λ (b : Bool). Needed b As-number w (x .strings) h s (Some us) a z h′) (table-has str) (kept r us (at .reading, at .from) is))
 
+            -- a template's value or none, and entry, where they are needed
+            template-by :
+                (b : Bool) (z : SlotMap (Option ℕ)) (a : Result (Unit {0}) Refusal) → of-string (sort-by k) ≡ false → a ≡ Ok tt → needs-entry (ledger-of x (dropped h)) r ≡ b
+                → Needed b As-option w (x .templates) h s (unitsRead r) a z h′ → Owed w text k s x h (token (seen .token)) (record { strings = x .strings; templates = z; faults = f }) h′
+            unfolding r at
+            template-by false z a str ok n st =
+                subst (λ (y : Held). Owed w text k s x h (token (seen .token)) (record { strings = x .strings; templates = z; faults = f }) y) (sym (st .2))
+                (subst (λ (y : SlotMap (Option ℕ)). Owed w text k s x h (token (seen .token)) (record { strings = x .strings; templates = y; faults = f }) h) (sym (st .1)) (without n))
+            template-by true z (Ok t) str ok n (o, v, num, put, ent) =
+                owed w text k s x h (token (seen .token)) (record { strings = x .strings; templates = z; faults = f }) h′
+                (scanning.goes-template w nothing text (sort-by k) s x h lt right r (at .reading) (at .from) sort records (seen .token) told f recs n h′ (unitsRead r) o refl light put v z str num ent)
+            template-by true z (Err e) str ok n p = let y : _≡_ {A = ℕ} 0 1 = cc in absurd (omega arith)
+
+            pub template-done :
+                (z : SlotMap (Option ℕ)) (a : Result (Unit {0}) Refusal) → of-string (sort-by k) ≡ false → a ≡ Ok tt
+                → ((q : Read) → Reads text s q → seen .cooked ≡ isSome (unitsRead q) → Needed (needs (seen .token .escaped) (x .templates) s) As-option w (x .templates) h s (unitsRead q) a z h′)
+                → Owed w text k s x h (token (seen .token)) (record { strings = x .strings; templates = z; faults = f }) h′
+            unfolding r at
+            template-done z a str ok kept =
+                let outside : in-strings r ≡ false = ap of-string sort ∙ str in
+                let has : needs (seen .token .escaped) (x .templates) s ≡ needs-entry (ledger-of x (dropped h)) r =
+                (λ j. at .marked j && not (isSome (lookup (entries-of (x .templates)) (sym (at .from) j)))) ∙ ap (λ (b : Bool). markRead r && not b) (sym (cond-false _ _ _ outside)) in
+                template-by (needs-entry (ledger-of x (dropped h)) r) z a str ok refl
+                (subst (λ (b : Bool). Needed b As-option w (x .templates) h s (unitsRead r) a z h′) has (kept r (at .reading, at .from) (at .cooked)))
+
         -- a string's value is not filed
         module _ (light : weighed w (h .values) ≤ h .capacity) (h′ : Held) where
           string-not-by :
@@ -194,3 +219,30 @@ module _ (w : List ℕ → ℕ) (nothing : w [] ≡ 0) (text : List ℕ) (k : Sc
               let p = string-not-by (needs-entry (ledger-of x (dropped h)) r) us z e inside is refl
               (subst (λ (b : Bool). Needed b As-number w (x .strings) h s (Some us) (Err e) z h′) has (kept r us (at .reading, at .from) is)) in
               subst (λ (y : SlotMap ℕ). Owed w text k s x h (refused (numberOf e)) (record { strings = y; templates = x .templates; faults = x .faults }) h′) (sym (p .0)) (p .1)
+
+          template-not-by :
+              (b : Bool) (z : SlotMap (Option ℕ)) (e : Refusal) → in-strings r ≡ false → needs-entry (ledger-of x (dropped h)) r ≡ b → Needed b As-option w (x .templates) h s (unitsRead r) (Err e) z h′
+              → (z ≡ x .templates) × Owed w text k s x h (refused (numberOf e)) x h′
+          unfolding r at
+          template-not-by false z e outside n st = let y : _≡_ {A = ℕ} 0 1 = none (st .0) in absurd (omega arith)
+            where
+              none : _≡_ {A = Result (Unit {0}) Refusal} (Err e) (Ok tt) → _≡_ {A = ℕ} 0 1
+              none q = cc
+          template-not-by true z e outside n files = (
+            files .0,
+            owed w text k s x h (refused (numberOf e)) x h′
+                (scanning.not-filed w nothing text (sort-by k) s x h lt right r (at .reading) (at .from) sort records n (length (entries-of (x .templates))) (room-of (x .templates)) (cond-false _ _ _ outside) As-option (x .templates) z e (unitsRead r) h′ refl light refl refl files),
+          )
+
+          pub template-undone :
+              (z : SlotMap (Option ℕ)) (e : Refusal) → of-string (sort-by k) ≡ false
+              → ((q : Read) → Reads text s q → seen .cooked ≡ isSome (unitsRead q) → Needed (needs (seen .token .escaped) (x .templates) s) As-option w (x .templates) h s (unitsRead q) (Err e) z h′)
+              → Owed w text k s x h (refused (numberOf e)) (record { strings = x .strings; templates = z; faults = x .faults }) h′
+          unfolding r at
+          template-undone z e str kept =
+              let outside : in-strings r ≡ false = ap of-string sort ∙ str in
+              let has : needs (seen .token .escaped) (x .templates) s ≡ needs-entry (ledger-of x (dropped h)) r =
+              (λ j. at .marked j && not (isSome (lookup (entries-of (x .templates)) (sym (at .from) j)))) ∙ ap (λ (b : Bool). markRead r && not b) (sym (cond-false _ _ _ outside)) in
+              let p = template-not-by (needs-entry (ledger-of x (dropped h)) r) z e outside refl
+              (subst (λ (b : Bool). Needed b As-option w (x .templates) h s (unitsRead r) (Err e) z h′) has (kept r (at .reading, at .from) (at .cooked))) in
+              subst (λ (y : SlotMap (Option ℕ)). Owed w text k s x h (refused (numberOf e)) (record { strings = x .strings; templates = y; faults = x .faults }) h′) (sym (p .0)) (p .1)

@@ -17,6 +17,7 @@ ghost use Rattle.refusals.specs.Numbers.{numbered};
 ghost use Rattle.look.specs.Looked.{opens};
 ghost use Rattle.store.specs.Held.{fits, with-unit, has-place, closed, dropped};
 ghost use Rattle.ledger.specs.Calls as ask;
+ghost use Rattle.ledger.specs.Ledger.{of-string};
 ghost use Rattle.session.specs.Replies.{token-reply};
 ghost use Rattle.session.specs.Calls.{Called, Lives-on};
 ghost use Rattle.session.specs.Scans.{sort-by, bytes-of, Reads, Stores, Recorded, Files, Needed, needs, As-number, As-option};
@@ -59,6 +60,114 @@ impl<'a> Session<'a> {
             }
             Err(refusal) => Err(refusal),
         }
+    }
+
+    // Scans a template from its backtick on.
+    pub fn scan_template<S: ValueStore>(
+        &mut self,
+        store: &mut S,
+        text: Text<'_>,
+        start: usize,
+    ) -> Result<Token, Refusal>
+        ensures called { λ r. ⌜ Called (S·ValueStore .weight) (bytes-of (text .entry)) (ask.scan ask.template start) (now (self .entry)) (S·ValueStore .held (now (store .entry))) (token-reply r) (now (self .exit)) (S·ValueStore .held (now (store .exit))) ⌝ }
+        ensures lives { λ r. ⌜ Lives-on (S·ValueStore .weight) (bytes-of (text .entry)) (ask.scan ask.template start) (now (self .entry)) (S·ValueStore .held (now (store .entry))) (token-reply r) (now (self .exit)) (S·ValueStore .held (now (store .exit))) ⌝ }
+    {
+        self.scan_part(store, text, start, Scan::Template)
+    }
+
+    // Scans a template on from the brace behind a substitution.
+    pub fn resume<S: ValueStore>(
+        &mut self,
+        store: &mut S,
+        text: Text<'_>,
+        start: usize,
+    ) -> Result<Token, Refusal>
+        ensures called { λ r. ⌜ Called (S·ValueStore .weight) (bytes-of (text .entry)) (ask.scan ask.resumption start) (now (self .entry)) (S·ValueStore .held (now (store .entry))) (token-reply r) (now (self .exit)) (S·ValueStore .held (now (store .exit))) ⌝ }
+        ensures lives { λ r. ⌜ Lives-on (S·ValueStore .weight) (bytes-of (text .entry)) (ask.scan ask.resumption start) (now (self .entry)) (S·ValueStore .held (now (store .entry))) (token-reply r) (now (self .exit)) (S·ValueStore .held (now (store .exit))) ⌝ }
+    {
+        self.scan_part(store, text, start, Scan::Resumption)
+    }
+
+    // Scans a part of a template.
+    fn scan_part<S: ValueStore>(
+        &mut self,
+        store: &mut S,
+        text: Text<'_>,
+        start: usize,
+        scan: Scan,
+    ) -> Result<Token, Refusal>
+        requires { ⌜ of-string (sort-by scan) ≡ false ⌝ }
+        ensures called { λ r. ⌜ Called (S·ValueStore .weight) (bytes-of (text .entry)) (ask.scan (sort-by scan) start) (now (self .entry)) (S·ValueStore .held (now (store .entry))) (token-reply r) (now (self .exit)) (S·ValueStore .held (now (store .exit))) ⌝ }
+        ensures lives { λ r. ⌜ Lives-on (S·ValueStore .weight) (bytes-of (text .entry)) (ask.scan (sort-by scan) start) (now (self .entry)) (S·ValueStore .held (now (store .entry))) (token-reply r) (now (self .exit)) (S·ValueStore .held (now (store .exit))) ⌝ }
+    {
+        let seen = match look(text, start, scan) {
+            Ok(seen) => seen,
+            Err(refusal) => return Err(refusal),
+        };
+        if seen.faults > free_records(&self.faults) {
+            return Err(Refusal::NoRecord);
+        }
+        match keep_template(
+            &mut self.templates,
+            store,
+            text,
+            start,
+            scan,
+            seen.token.escaped,
+            seen.cooked,
+        ) {
+            Ok(()) => {
+                record(&mut self.faults, text, start, scan);
+                Ok(seen.token)
+            }
+            Err(refusal) => Err(refusal),
+        }
+    }
+}
+
+// Files a template part's value, or that none is cooked, if it is escaped and its start has no entry.
+fn keep_template<S: ValueStore>(
+    templates: &mut SlotMap<'_, Option<usize>>,
+    store: &mut S,
+    text: Text<'_>,
+    start: usize,
+    scan: Scan,
+    escaped: bool,
+    cooked: bool,
+) -> Result<(), Refusal>
+    requires { ⌜ start < length (bytes-of text) ⌝ ∗ ⌜ opens scan (getD (bytes-of text) start 0) ≡ true ⌝ }
+    ensures { λ r. ⌜ ((read : Read) → Reads (bytes-of (text .entry)) start read → cooked ≡ isSome (unitsRead read) → Needed (needs escaped (now (templates .entry)) start) As-option (S·ValueStore .weight) (now (templates .entry)) (S·ValueStore .held (now (store .entry))) start (unitsRead read) r (now (templates .exit)) (S·ValueStore .held (now (store .exit)))) ⌝ }
+{
+    if !escaped {
+        return Ok(());
+    }
+    if templates.find(start).is_some() {
+        return Ok(());
+    }
+    file_template(templates, store, text, start, scan, cooked)
+}
+
+// Stores a template part's units, if any is cooked, and enters the value's number or none.
+fn file_template<S: ValueStore>(
+    templates: &mut SlotMap<'_, Option<usize>>,
+    store: &mut S,
+    text: Text<'_>,
+    start: usize,
+    scan: Scan,
+    cooked: bool,
+) -> Result<(), Refusal>
+    requires { ⌜ start < length (bytes-of text) ⌝ ∗ ⌜ opens scan (getD (bytes-of text) start 0) ≡ true ⌝ }
+    ensures { λ r. ⌜ ((read : Read) → Reads (bytes-of (text .entry)) start read → cooked ≡ isSome (unitsRead read) → isSome (lookup (entries-of (now (templates .entry))) start) ≡ false → Files As-option (S·ValueStore .weight) (now (templates .entry)) (S·ValueStore .held (now (store .entry))) start (unitsRead read) r (now (templates .exit)) (S·ValueStore .held (now (store .exit)))) ⌝ }
+{
+    if templates.count() >= templates.room() {
+        return Err(Refusal::NoSlot);
+    }
+    if !cooked {
+        return templates.insert(start, None);
+    }
+    match put_units(store, text, start, scan) {
+        Ok(number) => templates.insert(start, Some(number)),
+        Err(refusal) => Err(refusal),
     }
 }
 
