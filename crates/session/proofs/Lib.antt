@@ -6,3 +6,4 @@ pub mod Filing
 pub mod Keeping
 pub mod Scanning
 pub mod Looking
+pub mod Performing

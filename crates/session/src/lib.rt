@@ -10,8 +10,12 @@ use faults::Fault;
 use faults::FaultList;
 use slots::Slot;
 use slots::SlotMap;
+use look::answer::Scan;
+use refusals::Refusal;
 use store::ValueStore;
+use tokens::Token;
 
+mod perform;
 mod questions;
 mod scans;
 
@@ -28,6 +32,27 @@ pub struct Session<'a> {
 pub struct Value {
     pub cooked: bool,
     pub length: usize,
+}
+
+// One of the calls.
+#[derive(Clone, Copy)]
+pub enum Call {
+    Scan(Scan, usize),
+    Value(usize),
+    Unit(usize, usize),
+    FaultCount,
+    FaultAt(usize),
+}
+
+// What is answered to it.
+#[derive(Clone, Copy)]
+pub enum Answer {
+    Token(Token),
+    Value(Value),
+    Unit(u16),
+    Count(usize),
+    Fault(Fault),
+    Refused(Refusal),
 }
 
 impl<'a> Session<'a> {
