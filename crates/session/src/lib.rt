@@ -8,10 +8,10 @@ ghost use Rattle.session.specs.Views.{lent, memory-of};
 ghost use Rattle.session.specs.Calls.{Lives, Goes-on};
 use faults::Fault;
 use faults::FaultList;
-use slots::Slot;
-use slots::SlotMap;
 use look::answer::Scan;
 use refusals::Refusal;
+use slots::Slot;
+use slots::SlotMap;
 use store::ValueStore;
 use tokens::Token;
 
