@@ -7,3 +7,4 @@ pub mod Keeping
 pub mod Scanning
 pub mod Looking
 pub mod Performing
+pub mod Serving

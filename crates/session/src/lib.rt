@@ -15,9 +15,12 @@ use slots::SlotMap;
 use store::ValueStore;
 use tokens::Token;
 
+mod life;
 mod perform;
 mod questions;
 mod scans;
+
+pub use life::serve;
 
 // What a session holds: an entry for each escaped literal, by its start, and the faults. A string's entry is the number of its value; a template's may be none.
 #[derive(Drop)]
