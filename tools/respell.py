@@ -21,6 +21,8 @@ APART = {
     "text-end": "text_end_lem",
     "zero-decimal": "zero_decimal_lem",
 }
+# names of the library that are declared here too
+KEPT = {"append-nil", "not_T"}
 # names that are bound, derived or imported otherwise than by a line of their own
 BOUND = ["bad-discrete", "body-discrete", "break-discrete", "character-discrete", "ending-discrete", "escape-discrete", "legacy-discrete", "notEscape-discrete", "production-discrete",
          "scan-discrete", "step-discrete", "terminator-discrete", "bytes-weight", "digit-behind", "first-in", "free-is", "in-k", "open-same"]
@@ -41,6 +43,8 @@ def camel(name):
 
 
 def respelt(name):
+    if name in KEPT:
+        return name
     if name in APART:
         return APART[name]
     return camel(name) if name[0].isupper() else snake(name)

@@ -2,7 +2,7 @@
 use Rattle.std.proofs.Common.{◌≡◌, ℕ, ◌+◌, ◌-◌, ◌*◌, ◌/◌, ◌%◌, ◌<◌, ◌≤◌, Bool, true, false, cond, ◌&&◌, ltb, leb, List, [], ◌∷◌, ◌++◌, length, get_or, sym, refl, ap, ◌∙◌, subst, ⊎_elim, arith}
 use lib.Utf8.{encode, encodes, next}
 use Rattle.std.specs.Char.{len_utf8}
-use Rattle.std.proofs.lemmas.List.{length-append, append_assoc, append_nil}
+use Rattle.std.proofs.lemmas.List.{length-append, append_assoc, append-nil}
 use Rattle.std.proofs.lemmas.Str.{encodes-append, length-encode}
 use Rattle.std.proofs.lemmas.Bool.{leb-true, ltb-true, le-leb, lt-ltb, le-ltb, lt-leb, and_parts, and_from, and_left, and_right, cond-true, cond-false, cases_lt, true≢false}
 use Rattle.store.specs.Held.{Narrow}
@@ -175,7 +175,7 @@ trail_more (x ∷ (y ∷ us)) u = trail_more (y ∷ us) u
 
 -- the bytes of one unit more
 pub wtf8_more : (us : List ℕ) (u : ℕ) → (high (trail us) && low u) ≡ false → wtf8 (us ++ (u ∷ [])) ≡ wtf8 us ++ encode u
-wtf8_more us u h = ap encodes (points_more us u h) ∙ encodes-append (points us) (u ∷ []) ∙ ap (λ t. wtf8 us ++ t) (append_nil (encode u))
+wtf8_more us u h = ap encodes (points_more us u h) ∙ encodes-append (points us) (u ∷ []) ∙ ap (λ t. wtf8 us ++ t) (append-nil (encode u))
 
 pub wtf8_high : (us : List ℕ) → high (trail us) ≡ true → wtf8 us ≡ wtf8 (front us) ++ encode (trail us)
 wtf8_high us h = ap wtf8 (front_trail us h) ∙ wtf8_more (front us) (trail us) (and_right (high (trail (front us))) (low (trail us)) (low_not (trail us) h))
@@ -186,7 +186,7 @@ wtf8_join us l h k =
     ∙ ap wtf8 (append_assoc (front us) (trail us ∷ []) (l ∷ []))
     ∙ ap encodes (points_join (front us) (trail us) l h k)
     ∙ encodes-append (points (front us)) (join (trail us) l ∷ [])
-    ∙ ap (λ t. wtf8 (front us) ++ t) (append_nil (encode (join (trail us) l)))
+    ∙ ap (λ t. wtf8 (front us) ++ t) (append-nil (encode (join (trail us) l)))
 
 width_least : (c : ℕ) → 1 ≤ len_utf8 c
 width_least c = go (ltb c 128) (ltb c 2048) (ltb c 65536)

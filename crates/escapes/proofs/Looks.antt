@@ -1,6 +1,6 @@
 -- What a byte at a place tells of the character there. Assumes nothing.
 use Rattle.std.proofs.Common.{◌≡◌, ℕ, ◌+◌, ◌-◌, ◌<◌, ◌≤◌, true, T, List, [], ◌∷◌, ◌++◌, length, get_or, drop, Some, IsUtf8, sym, refl, ap, ◌∙◌, subst, ⊎_elim, arith, T_not, length-drop}
-use lib.Dec.{not_t}
+use lib.Dec.{not_T}
 use lib.Utf8.{encode, scalar, scalar_cases}
 use Rattle.std.specs.Char.{len_utf8}
 use Rattle.std.specs.Str.{IsCharBoundary}
@@ -70,14 +70,14 @@ no_ascii bs p a l h = lookahead_not_at bs p ((0, 127) ∷ []) tt a.text (λ _ k.
 -- where no character of ASCII stands, none of a class below 128 does
 pub ahead_low : (s : Spot) (ss : List Span) → T (low ss) → Ahead s (but ((0, 127) ∷ [])) true → Ahead s (but ss) true
 ahead_low over ss l h = tt
-ahead_low (char c q) ss l h = not_t (among c ss) (λ k. T_not (among c ((0, 127) ∷ [])) h (low_among c (among_low c ss l k)))
+ahead_low (char c q) ss l h = not_T (among c ss) (λ k. T_not (among c ((0, 127) ∷ [])) h (low_among c (among_low c ss l k)))
   where
     low_among : (c : ℕ) → c < 128 → T (among c ((0, 127) ∷ []))
     low_among c k = grind arith
 
 -- nor one of a class that the character there is not in
 pub ahead_here : {bs : List ℕ} {p c : ℕ} (ss : List Span) → Here bs p c → (T (among c ss) → ⊥) → Ahead (utf8 bs p) (but ss) true
-ahead_here {bs} {p} {c} ss x h = subst (λ (z : Spot). Ahead z (but ss) true) (sym x.step) (not_t (among c ss) h)
+ahead_here {bs} {p} {c} ss x h = subst (λ (z : Spot). Ahead z (but ss) true) (sym x.step) (not_T (among c ss) h)
 
 -- two leading bytes of ASCII, as characters
 pub two_here : (bs : List ℕ) (p a b : ℕ) → At bs p → a < 128 → b < 128 → Begins a b (drop p bs) → Here bs p a × Here bs (p + 1) b

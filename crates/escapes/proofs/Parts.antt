@@ -17,13 +17,13 @@ use Rattle.escapes.specs.Escapes.{behind_rule, Alone, Joined, Wrong, Behind, Par
 use Rattle.escapes.specs.declared.unicode.Escape.{Escape}
 use Rattle.escapes.specs.declared.unicode.Escape.TheVariants.{Gives, Invalid}
 
-pub append_nil : {A : Type 0} (xs : List A) → xs ++ [] ≡ xs
-append_nil [] = refl
-append_nil (x ∷ xs) = ap (λ z. x ∷ z) (append_nil xs)
+pub append-nil : {A : Type 0} (xs : List A) → xs ++ [] ≡ xs
+append-nil [] = refl
+append-nil (x ∷ xs) = ap (λ z. x ∷ z) (append-nil xs)
 
 joined_nil : (u : Option (List ℕ)) → joined u (Some []) ≡ u
 joined_nil None = refl
-joined_nil (Some us) = ap Some (append_nil us)
+joined_nil (Some us) = ap Some (append-nil us)
 
 -- one step, as a part of a reading
 pub one_step : (body : Body) (t : Text) (what : Step) (p q : ℕ) (cs : List ℕ) → Matches t p (step_rule body what) cs q → Part body t p (step_value what cs) (step_faults what p q) (step_marks what) q
@@ -33,7 +33,7 @@ one_step body t what p q cs x =
       nodes = record { what = what; from = p; leaves = ls; to = q } ∷ [];
       chain = (refl, y, refl);
       units = joined_nil (step_value what (codes ls)) ∙ ap (step_value what) e;
-      faulted = append_nil (step_faults what p q);
+      faulted = append-nil (step_faults what p q);
       marked = or_false (step_marks what);
     }
   where

@@ -1,6 +1,6 @@
 -- Bytes below 128 as characters, and lookaheads by the byte at a place: for readers of UTF-8 bytes.
 use Rattle.std.proofs.Common.{◌≡◌, ℕ, ◌+◌, ◌<◌, Bool, true, ◌&&◌, T, ltb, leb, List, [], ◌∷◌, ◌++◌, length, get_or, drop, IsUtf8, sym, refl, ap, ◌∙◌, subst, ⊎_elim, arith, ltb→lt, leb→le}
-use lib.Dec.{not_t}
+use lib.Dec.{not_T}
 use lib.Utf8.{encode}
 use Rattle.std.specs.Char.{len_utf8}
 use Rattle.std.proofs.lemmas.List.{drop_more}
@@ -43,4 +43,4 @@ lookahead_not_at bs p ss l u h = go (utf8 bs p) refl
     go : (s : Spot) → utf8 bs p ≡ s → Ahead s (but ss) true
     go over e = tt
     go (char c q) e =
-        not_t (among c ss) (λ k. h (characters_stand bs p c q u e).within (subst (λ (z : ℕ). T (among z ss)) (sym (byte_at bs p c q u e (among_low c ss l k)).0) k))
+        not_T (among c ss) (λ k. h (characters_stand bs p c q u e).within (subst (λ (z : ℕ). T (among z ss)) (sym (byte_at bs p c q u e (among_low c ss l k)).0) k))

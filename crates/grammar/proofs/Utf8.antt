@@ -1,7 +1,7 @@
 -- The characters of UTF-8 bytes.
 use Rattle.std.proofs.Common.{◌≡◌, ℕ, ◌+◌, ◌<◌, ◌≤◌, Bool, true, false, cond, ◌&&◌, T, leb, List, [], ◌∷◌, ◌++◌, length, get_or, drop, IsUtf8, sym, refl, ap, ◌∙◌, subst, ⊎_elim, arith, le→leb, leb→le, T_not}
 use native.Mathlib.Decide.{dec_lt}
-use lib.Dec.{not_t}
+use lib.Dec.{not_T}
 use lib.Utf8.{encode, encodes, scalar, scalars, scalar_cases}
 use Rattle.std.specs.Char.{len_utf8}
 use Rattle.std.specs.Str.{IsCharBoundary, chars}
@@ -23,7 +23,7 @@ is_true false h = absurd h
 leads_at : (bs : List ℕ) (p : ℕ) → IsCharBoundary bs p → T (leads (get_or bs p 0))
 leads_at bs p b =
     let c : ℕ = get_or bs p 0 in
-    not_t (leb 0x80 c && leb c 0xBF) (λ h. let (x, y) = both (leb 0x80 c) (leb c 0xBF) h in go (dec_lt p (length bs)) (leb→le 0x80 c x) (leb→le c 0xBF y))
+    not_T (leb 0x80 c && leb c 0xBF) (λ h. let (x, y) = both (leb 0x80 c) (leb c 0xBF) h in go (dec_lt p (length bs)) (leb→le 0x80 c x) (leb→le c 0xBF y))
   where
     go : Dec (p < length bs) → 0x80 ≤ get_or bs p 0 → get_or bs p 0 ≤ 0xBF → ⊥
     go (yes l) x y = omega (arith, b.1 l x)

@@ -1,5 +1,5 @@
 -- Every entry of a run's ledger tells the value of the literal read at its start, and an escaped literal once scanned keeps its entry. Assumes nothing.
-use Rattle.std.proofs.Common.{◌≡◌, ℕ, ◌+◌, ◌<◌, ◌≤◌, Bool, true, false, cond, not, ◌&&◌, eqb, ◌⊎◌, List, [], ◌∷◌, ◌++◌, length, get_or, is_some as option_is_some, Some, None, Option, sym, refl, ap, ◌∙◌, subst, ap₂, inl, inr, ⊎_elim, append_nil, arith}
+use Rattle.std.proofs.Common.{◌≡◌, ℕ, ◌+◌, ◌<◌, ◌≤◌, Bool, true, false, cond, not, ◌&&◌, eqb, ◌⊎◌, List, [], ◌∷◌, ◌++◌, length, get_or, is_some as option_is_some, Some, None, Option, sym, refl, ap, ◌∙◌, subst, ap₂, inl, inr, ⊎_elim, append-nil, arith}
 use Rattle.std.proofs.lemmas.List.{get_or_append_left, get_or_at, length-append}
 use Rattle.std.proofs.lemmas.Bool.{cases_Bool, cond-true, cond-false, eqb-true, eq-eqb, lt-ltb}
 use Rattle.grammar.specs.Utf8.{utf8}
@@ -47,7 +47,7 @@ module _ {V : Type 0} where
 
   added_entry : (b : Bool) (es : List (ℕ × V)) (x : ℕ × V) (s : ℕ) (v : V) → lookup (es ++ cond b (x ∷ []) []) s ≡ Some v → (lookup es s ≡ Some v) ⊎ ((b ≡ true) × (x.0 ≡ s) × (x.1 ≡ v))
   added_entry true es x s v e = ⊎_elim inl (λ p. inr (refl, p.0, p.1)) (either es x s v e)
-  added_entry false es x s v e = inl (ap (λ z. lookup z s) (sym (append_nil es)) ∙ e)
+  added_entry false es x s v e = inl (ap (λ z. lookup z s) (sym (append-nil es)) ∙ e)
 
   is_some : (o : Option V) → option_is_some o ≡ true → (v : V) × (o ≡ Some v)
   is_some None e = true_false (sym e)
@@ -58,7 +58,7 @@ module _ {V : Type 0} where
 
   -- no start has two entries, given that what is added had none
   pub still_distinct : (b : Bool) (es : List (ℕ × V)) (s : ℕ) (v : V) → distinct es ≡ true → (b ≡ true → option_is_some (lookup es s) ≡ false) → distinct (es ++ cond b ((s, v) ∷ []) []) ≡ true
-  still_distinct false es s v d h = ap distinct (append_nil es) ∙ d
+  still_distinct false es s v d h = ap distinct (append-nil es) ∙ d
   still_distinct true es s v d h =
       let room : has_slot es (length es + 1) ≡ true = lt-ltb _ _ (omega arith) in
       distinct_inserted es (es ++ ((s, v) ∷ [])) (length es + 1) s v (insert_new es (length es + 1) s v (es ++ ((s, v) ∷ [])) room (h refl) refl) d

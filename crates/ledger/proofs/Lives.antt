@@ -1,5 +1,5 @@
 -- A run of the ledger is a life that keeps the law. Assumes nothing.
-use Rattle.std.proofs.Common.{◌≡◌, ℕ, ◌+◌, ◌-◌, ◌<◌, ◌≤◌, Bool, true, false, cond, ltb, ◌⊎◌, ◌↔◌, List, [], ◌∷◌, ◌++◌, map, length, get_or, is_some, Some, None, Option, sym, refl, ap, ◌∙◌, subst, inl, inr, ⊎_elim, append_nil, arith}
+use Rattle.std.proofs.Common.{◌≡◌, ℕ, ◌+◌, ◌-◌, ◌<◌, ◌≤◌, Bool, true, false, cond, ltb, ◌⊎◌, ◌↔◌, List, [], ◌∷◌, ◌++◌, map, length, get_or, is_some, Some, None, Option, sym, refl, ap, ◌∙◌, subst, inl, inr, ⊎_elim, append-nil, arith}
 use Rattle.std.proofs.lemmas.List.{length-append, map_push}
 use Rattle.std.proofs.lemmas.Bool.{cases_Bool, cases_lt, ltb-true, lt-ltb}
 use Rattle.grammar.specs.Utf8.{utf8}
@@ -103,7 +103,7 @@ module _ (w : List ℕ → ℕ) (m : Limits) (text : List ℕ) where
                 mark_read r,
                 (
                   t ∙ (λ j. token (record { start = f j; end = un.ends j; kind = named (un.of_kind j); escaped = mark_read r })),
-                  (λ is. ap (λ (z : Ledger). z.faults) j ∙ ap (λ z. x.before.faults ++ recorded z) un.faultless ∙ append_nil _),
+                  (λ is. ap (λ (z : Ledger). z.faults) j ∙ ap (λ z. x.before.faults ++ recorded z) un.faultless ∙ append-nil _),
                 ),
               )),
         )

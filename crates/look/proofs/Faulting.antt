@@ -10,7 +10,7 @@ use Rattle.grammar.specs.Outcome as outcome
 use Rattle.tokens.specs.Grammar.{recorded, fault_of}
 use Rattle.escapes.specs.Places.{At}
 use Rattle.escapes.specs.Escapes.{Part}
-use Rattle.escapes.proofs.Parts.{part_join, no_step, append_nil}
+use Rattle.escapes.proofs.Parts.{part_join, no_step, append-nil}
 use Rattle.pieces.specs.Plain.{Plain, spelt, utf16s}
 use Rattle.pieces.specs.Pieces.{scan_of, body_of, ending_of, Ends}
 use Rattle.pieces.specs.declared.piece.Opening.{Opening}
@@ -52,7 +52,7 @@ upto_plain bs start o p q fs x y =
       mark = x.mark || false;
       part = part_join (body_of o) (utf8 bs) (start + 1) p q x.units (Some (utf16s (spelt bs p q))) x.faults [] x.mark false x.part y.part;
       here = y.behind;
-      told = ap recorded (append_nil x.faults) ∙ x.told;
+      told = ap recorded (append-nil x.faults) ∙ x.told;
     }
 
 -- the fault of a stop, or none
@@ -130,7 +130,7 @@ pub none_told : (r s : FaultReader) (q : ℕ) (w : Passed) (fs : List Fault) →
     → FaultStepped r s fs step.TheVariants.Nothing
 none_told r s q w fs e m y h f x =
     let (z, l) = moved r s q w fs e m y h x in
-    (subst (Told s) (append_nil fs) (subst (λ b. Told s (fs ++ cond b (record { kind = InvalidEscape; from = q; to = w.next } ∷ []) [])) f z), l)
+    (subst (Told s) (append-nil fs) (subst (λ b. Told s (fs ++ cond b (record { kind = InvalidEscape; from = q; to = w.next } ∷ []) [])) f z), l)
 
 pub moved_by : (r s : FaultReader) (w : Passed) → s.cursor.bytes.now ≡ r.cursor.bytes.now → (IsCharBoundary r.cursor.bytes.now w.next → s.cursor.place.at ≡ w.next) → s.opening ≡ r.opening → s.start ≡ r.start → s.standing ≡ Inside → Moved r s w
 moved_by r s w a b c d e = record { bytes = a; place = b; opening = c; start = d; standing = e }

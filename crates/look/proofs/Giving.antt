@@ -9,7 +9,7 @@ use Rattle.grammar.specs.Outcome.{Fault}
 use Rattle.escapes.specs.Places.{At, Stands}
 use Rattle.escapes.specs.Escapes.{Part, listed}
 use Rattle.escapes.specs.declared.unicode.Units.{Units}
-use Rattle.escapes.proofs.Parts.{part_join, no_step, append_nil}
+use Rattle.escapes.proofs.Parts.{part_join, no_step, append-nil}
 use Rattle.escapes.proofs.Looks.{stands_by, stands_moves}
 use Rattle.source.specs.Texts.{CharAt}
 use Rattle.std.specs.Str.{IsCharBoundary}
@@ -96,7 +96,7 @@ sofar_run bs start o at to g us ls s c q x l e a k =
 
 -- all of a run given
 done_run : (bs us : List ℕ) (at to : ℕ) → to ≤ at → us ++ ([] ++ utf16s (spelt bs at to)) ≡ us
-done_run bs us at to l = ap (λ (z : List ℕ). us ++ utf16s z) (spelt_none bs at to l) ∙ append_nil us
+done_run bs us at to l = ap (λ (z : List ℕ). us ++ utf16s z) (spelt_none bs at to l) ∙ append-nil us
 
 -- behind a stop
 pub sofar_on :
@@ -155,7 +155,7 @@ one_pending (Some u) = omega arith
 
 stepped_by : (r s : UnitReader) (start : ℕ) (us : List ℕ) (st : UnitStep) → goes_on st → Gave s start (us ++ step_units st) → togo s < togo r → Stepped r s start us st
 stepped_by r s start us (step.TheVariants.Unit u) h x l = (x, l)
-stepped_by r s start us step.TheVariants.Nothing h x l = (subst (Gave s start) (append_nil us) x, l)
+stepped_by r s start us step.TheVariants.Nothing h x l = (subst (Gave s start) (append-nil us) x, l)
 stepped_by r s start us step.TheVariants.End h x l = absurd h
 
 -- nearer to the end by a place

@@ -1,5 +1,5 @@
 -- Requests one after another. Assumes nothing.
-use Rattle.std.proofs.Common.{◌≡◌, ℕ, zero, suc, ◌+◌, ◌<◌, ◌≤◌, min, List, [], ◌∷◌, ◌++◌, map, length, get_or, take, drop, set, Some, None, Option, sym, refl, ap, ◌∙◌, subst, append_assoc, append_nil, arith, length-append}
+use Rattle.std.proofs.Common.{◌≡◌, ℕ, zero, suc, ◌+◌, ◌<◌, ◌≤◌, min, List, [], ◌∷◌, ◌++◌, map, length, get_or, take, drop, set, Some, None, Option, sym, refl, ap, ◌∙◌, subst, append_assoc, append-nil, arith, length-append}
 use lib.Seq.{length_front}
 use Rattle.std.proofs.lemmas.List.{take_more, take_more_set, drop-set-lt}
 use Rattle.store.specs.Held.{Held}
@@ -41,7 +41,7 @@ module _ (w : List ℕ → ℕ) (text : List ℕ) (x : Session) (h : Held) where
 exchanges_more :
     (qs : List Request) (rs : List ask.Reply) (q : Request) (a : ask.Reply) → length qs ≡ length rs
     → exchanges (qs ++ (q ∷ [])) (rs ++ (a ∷ [])) ≡ exchanges qs rs ++ exchanged (asks q) a
-exchanges_more [] [] q a e = append_nil (exchanged (asks q) a)
+exchanges_more [] [] q a e = append-nil (exchanged (asks q) a)
 exchanges_more [] (b ∷ rs) q a e = absurd (omega (arith, e))
 exchanges_more (p ∷ qs) [] q a e = absurd (omega (arith, e))
 exchanges_more (p ∷ qs) (b ∷ rs) q a e =

@@ -1,6 +1,6 @@
 -- Bytes with no stop among them, from boundary to boundary, are plain characters. Assumes nothing.
 use Rattle.std.proofs.Common.{◌≡◌, ℕ, ◌+◌, ◌-◌, ◌<◌, ◌≤◌, Bool, true, false, not, ◌||◌, T, eqb, leb, ◌⊎◌, List, [], ◌∷◌, ◌++◌, length, get_or, take, drop, Some, IsUtf8, sym, refl, ap, ◌∙◌, subst, inl, inr, ⊎_elim, append_assoc, arith, leb→le, T_not, length-append, length-drop, take-append-drop}
-use lib.Dec.{not_t}
+use lib.Dec.{not_T}
 use lib.Utf8.{encode, encodes}
 use Rattle.std.specs.Char.{len_utf8}
 use Rattle.std.specs.Str.{IsCharBoundary}
@@ -41,7 +41,7 @@ Off c (d ∷ ds) = (c ≡ d → ⊥) × Off c ds
 misses : (c : ℕ) (ds : List ℕ) → Off c ds → T (member c (but (points ds)))
 misses c [] h = tt
 misses c (d ∷ ds) h =
-    not_t (among c (points (d ∷ ds)))
+    not_T (among c (points (d ∷ ds)))
     (λ k. ⊎_elim (λ w. let (a, b) = both (leb d c) (leb c d) w in h.0 (omega (arith, leb→le d c a, leb→le c d b))) (λ x. T_not (among c (points ds)) (misses c ds h.1) x) (either (within c (d, d)) (among c (points ds)) k))
 
 pub is : {c : ℕ} (d : ℕ) → c ≡ d → T (member d (this d)) → T (member c (this d))

@@ -1,5 +1,5 @@
 -- Exchanges one after another. Assumes nothing.
-use Rattle.std.proofs.Common.{◌≡◌, ℕ, ◌+◌, ◌<◌, ◌≤◌, Bool, true, cond, List, [], ◌∷◌, ◌++◌, map, length, get_or, take, vec_items, sym, refl, ap, ◌∙◌, subst, append_assoc, append_nil, arith, take_all}
+use Rattle.std.proofs.Common.{◌≡◌, ℕ, ◌+◌, ◌<◌, ◌≤◌, Bool, true, cond, List, [], ◌∷◌, ◌++◌, map, length, get_or, take, vec_items, sym, refl, ap, ◌∙◌, subst, append_assoc, append-nil, arith, take_all}
 use Rattle.std.proofs.ResultArms.{chosen}
 use Rattle.std.proofs.lemmas.List.{take_more}
 use Rattle.store.specs.Held.{Held}
@@ -21,7 +21,7 @@ each_more f i (b ∷ xs) a =
 
 -- one line more
 pub line_more : (ls : List Line) (l : Line) → lines_told (ls ++ (l ∷ [])) ≡ lines_told ls ++ told_of l.command l.told
-line_more [] l = append_nil (told_of l.command l.told)
+line_more [] l = append-nil (told_of l.command l.told)
 line_more (k ∷ ls) l = ap (λ z. told_of k.command k.told ++ z) (line_more ls l) ∙ sym (append_assoc (told_of k.command k.told) (lines_told ls) (told_of l.command l.told))
 
 pub command_more : (ls : List Line) (l : Line) → map (λ (k : Line). k.command) (ls ++ (l ∷ [])) ≡ map (λ (k : Line). k.command) ls ++ (l.command ∷ [])

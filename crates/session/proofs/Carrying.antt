@@ -1,5 +1,5 @@
 -- Exchanges one after another. Assumes nothing.
-use Rattle.std.proofs.Common.{◌≡◌, ℕ, List, [], ◌++◌, sym, subst, append_assoc, append_nil}
+use Rattle.std.proofs.Common.{◌≡◌, ℕ, List, [], ◌++◌, sym, subst, append_assoc, append-nil}
 use Rattle.store.specs.Held.{Held}
 use Rattle.ledger.specs.Calls.{Exchange}
 use Rattle.session.specs.declared.Session.{Session}
@@ -8,7 +8,7 @@ use Rattle.session.specs.Calls.{Lives, Carries}
 module _ (w : List ℕ → ℕ) (text : List ℕ) (x : Session) (h : Held) where
   -- nothing exchanged
   pub still : Carries w text x h [] x h
-  still m stored past lived = subst (λ z. Lives w m text stored z x h) (sym (append_nil past)) lived
+  still m stored past lived = subst (λ z. Lives w m text stored z x h) (sym (append-nil past)) lived
 
   -- some exchanges, and then others
   pub joined :

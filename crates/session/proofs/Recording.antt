@@ -1,5 +1,5 @@
 -- A literal's faults recorded one after another. Assumes nothing.
-use Rattle.std.proofs.Common.{◌≡◌, ℕ, ◌+◌, ◌-◌, ◌<◌, ◌≤◌, Bool, true, false, cond, ltb, List, [], ◌∷◌, ◌++◌, length, drop, sym, refl, ap, ◌∙◌, subst, append_assoc, append_nil, arith}
+use Rattle.std.proofs.Common.{◌≡◌, ℕ, ◌+◌, ◌-◌, ◌<◌, ◌≤◌, Bool, true, false, cond, ltb, List, [], ◌∷◌, ◌++◌, length, drop, sym, refl, ap, ◌∙◌, subst, append_assoc, append-nil, arith}
 use Rattle.std.proofs.lemmas.List.{length-append}
 use Rattle.std.proofs.lemmas.Bool.{lt-ltb, cond-true}
 use Rattle.grammar.specs.Utf8.{utf8}
@@ -24,7 +24,7 @@ pub record Halfway (x₀ : FaultList) (bs : List ℕ) (start : ℕ) (reader : Fa
   pub so : length (faults_of x₀) + length given ≤ room_of x₀ → Recorded x₀ given x
 
 pub begun : (x : FaultList) (bs : List ℕ) (start : ℕ) (reader : FaultReader) → reader.cursor.bytes.now ≡ bs → reader.start ≡ start → Told reader [] → Halfway x bs start reader x
-begun x bs start reader same at t = record { given = []; told = t; bytes = same; starts = at; so = λ fits. record { faults = sym (append_nil (faults_of x)); unwritten = λ e. refl; past = refl; room = refl } }
+begun x bs start reader same at t = record { given = []; told = t; bytes = same; starts = at; so = λ fits. record { faults = sym (append-nil (faults_of x)); unwritten = λ e. refl; past = refl; room = refl } }
 
 nil_push : {A : Type 0} (xs : List A) (x : A) → xs ++ (x ∷ []) ≡ [] → ⊥
 nil_push xs x e = let a = ap length e in let b = length-append xs (x ∷ []) in omega arith

@@ -1,5 +1,5 @@
 -- What a scan's code has to show, case by case. Assumes nothing.
-use Rattle.std.proofs.Common.{◌≡◌, ℕ, ◌+◌, ◌-◌, ◌<◌, ◌≤◌, Bool, true, false, cond, not, ◌&&◌, ◌||◌, eqb, ltb, leb, ◌⊎◌, List, [], ◌∷◌, ◌++◌, length, get_or, drop, is_some, Some, None, Ok, Err, Option, Result, sym, refl, ap, ◌∙◌, subst, inl, inr, ⊎_elim, append_nil, arith}
+use Rattle.std.proofs.Common.{◌≡◌, ℕ, ◌+◌, ◌-◌, ◌<◌, ◌≤◌, Bool, true, false, cond, not, ◌&&◌, ◌||◌, eqb, ltb, leb, ◌⊎◌, List, [], ◌∷◌, ◌++◌, length, get_or, drop, is_some, Some, None, Ok, Err, Option, Result, sym, refl, ap, ◌∙◌, subst, inl, inr, ⊎_elim, append-nil, arith}
 use Rattle.std.proofs.lemmas.List.{length-append}
 use Rattle.std.proofs.lemmas.Bool.{lt-ltb, le-ltb, ltb-true, ltb-false, leb-true, leb-false, cond-true, cond-false, true≢false}
 use Rattle.refusals.specs.declared.Refusal.{Refusal}
@@ -39,7 +39,7 @@ one_not_none : {A : Type 0} (xs : List A) (y : A) → xs ++ (y ∷ []) ≡ xs �
 one_not_none xs y h = let a : length (xs ++ y ∷ []) ≡ length xs = ap length h in let b = length-append xs (y ∷ []) in omega arith
 
 nothing_by : {A : Type 0} (b : Bool) (xs ys : List A) → b ≡ false → xs ≡ xs ++ cond b ys []
-nothing_by b xs ys e = sym (append_nil xs) ∙ ap (λ z. xs ++ z) (sym (cond-false b ys [] e))
+nothing_by b xs ys e = sym (append-nil xs) ∙ ap (λ z. xs ++ z) (sym (cond-false b ys [] e))
 
 these_by : {A : Type 0} (b : Bool) (xs ys : List A) → b ≡ true → xs ++ ys ≡ xs ++ cond b ys []
 these_by b xs ys e = ap (λ z. xs ++ z) (sym (cond-true b ys [] e))
@@ -195,7 +195,7 @@ module _ (w : List ℕ → ℕ) (nothing : w [] ≡ 0) (text : List ℕ) (k : So
 
       values_are : (u : Option (List ℕ)) (o : Option ℕ) (h' : Held) → needs_entry l r ≡ true → units_read r ≡ u → Put w h u o h' → h'.values ≡ h.values ++ cond (needs_value l r) (units (units_read r) ∷ []) []
       values_are None o h' needs is p =
-          ap (λ (z : Held). z.values) p.1 ∙ sym (append_nil h.values)
+          ap (λ (z : Held). z.values) p.1 ∙ sym (append-nil h.values)
           ∙ ap (λ (z : List (List ℕ)). h.values ++ z) (sym (cond-false _ _ _ (ap (λ (b : Bool). b && is_some (units_read r)) needs ∙ ap is_some is)))
       values_are (Some us) o h' needs is p =
           ap (λ (z : Held). z.values) p.3

@@ -1,6 +1,6 @@
 -- Lists in lent cells: the cells between two places, and cells written one after another. Assumes nothing.
 use Rattle.std.proofs.Common.{◌≡◌, ℕ, zero, suc, ◌+◌, ◌-◌, ◌<◌, ◌≤◌, Bool, true, false, cond, ◌&&◌, ltb, leb, List, [], ◌∷◌, ◌++◌, length, get_or, take, drop, set, sym, refl, ap, ◌∙◌, subst, add-zero, zero-add, arith}
-use Rattle.std.proofs.lemmas.List.{length-take, length-drop, length-set, drop-set-add, drop-set-lt, take-set-le, take_more_set, take_more, get_or-take, drop_more, drop_all, take-take, append_assoc, append_nil, take-append-drop}
+use Rattle.std.proofs.lemmas.List.{length-take, length-drop, length-set, drop-set-add, drop-set-lt, take-set-le, take_more_set, take_more, get_or-take, drop_more, drop_all, take-take, append_assoc, append-nil, take-append-drop}
 use Rattle.std.proofs.lemmas.Bool.{leb-true, le-leb, and_parts, and_from}
 use Rattle.store.specs.Held.{weighed}
 use Rattle.store.specs.Cuts.{part, cut, final, ordered, laid}
@@ -97,7 +97,7 @@ drop_laid m i n [] h = refl
 drop_laid m i n (b ∷ bs) h = drop_laid (set m i b) (i + 1) n bs (omega arith) ∙ drop-set-lt n m i b (omega arith)
 
 pub part_laid : (m : List ℕ) (a i : ℕ) (bs : List ℕ) → a ≤ i → i + length bs ≤ length m → part (laid m i bs) a (i + length bs) ≡ part m a i ++ bs
-part_laid m a i [] h k = ap (part m a) (add-zero i) ∙ sym (append_nil (part m a i))
+part_laid m a i [] h k = ap (part m a) (add-zero i) ∙ sym (append-nil (part m a i))
 part_laid m a i (b ∷ bs) h k =
     let e : i + suc (length bs) ≡ i + 1 + length bs = omega arith in
     let l = length-set m i b in

@@ -1,6 +1,6 @@
 -- Units put one after another into the open value. Assumes nothing.
 use Rattle.std.proofs.Common.{◌≡◌, ℕ, ◌+◌, ◌<◌, ◌≤◌, Bool, true, false, cond, ltb, leb, List, [], ◌∷◌, ◌++◌, length, get_or, take, drop, Ok, Err, Result, sym, refl, ap, ◌∙◌, subst, arith, take-append-drop}
-use Rattle.std.proofs.lemmas.List.{take_more, take_all, append_assoc, append_nil}
+use Rattle.std.proofs.lemmas.List.{take_more, take_all, append_assoc, append-nil}
 use Rattle.std.proofs.lemmas.Bool.{leb-false, lt-leb, le-leb, lt-ltb, le-ltb, cond-true, cond-false}
 use Rattle.refusals.specs.declared.Refusal.{Refusal}
 use Rattle.refusals.specs.Numbers.{number_of}
@@ -19,7 +19,7 @@ stopped false n e = (refl, cc)
 -- a list weighs no less than its front
 module _ (w : List ℕ → ℕ) (heavier : (v : List ℕ) (u : ℕ) → Narrow v → u < 65536 → w v + 1 ≤ w (v ++ (u ∷ []))) where
   pub longer : (xs ys : List ℕ) → Narrow xs → Narrow ys → w xs ≤ w (xs ++ ys)
-  longer xs [] n m = rw append_nil (omega arith)
+  longer xs [] n m = rw append-nil (omega arith)
   longer xs (y ∷ ys) n m =
       let a = heavier xs y n m.0 in
       let b = longer (xs ++ (y ∷ [])) ys (narrow_append xs (y ∷ []) n (m.0, tt)) m.1 in

@@ -1,4 +1,4 @@
-use Rattle.std.proofs.Common.{◌≡◌, List, [], ◌∷◌, ◌++◌, length, vec_items, sym, ap, ◌∙◌, subst, append_assoc, append_nil}
+use Rattle.std.proofs.Common.{◌≡◌, List, [], ◌∷◌, ◌++◌, length, vec_items, sym, ap, ◌∙◌, subst, append_assoc, append-nil}
 use Rattle.std.proofs.lemmas.List.{nil_from_length}
 use Rattle.std.proofs.lemmas.Bool.{eqb-true, eqb-false}
 use Rattle.commands.specs.Format.{Input}
@@ -11,7 +11,7 @@ pub returns-then-is-empty : goal.returns-then-is-empty
 returns-then-is-empty c =
     let none : c.in-Some.front.now ≡ [] = nil_from_length _ (eqb-true _ _ (sym c.if-is-empty.ensures)) in
     let whole : c.loop-front.rest.now ≡ 10 ∷ c.in-Some.after.now = rw none at c.in-Some.ensures.0 in
-    rw append_nil at (c.loop-front.invariant.0 [] c.in-Some.after.now whole)
+    rw append-nil at (c.loop-front.invariant.0 [] c.in-Some.after.now whole)
 
 pub loop-front-smaller : goal.loop-front-smaller
 loop-front-smaller c = shorter c.loop-front.rest.now c.in-Some.front.now c.in-Some.after.now c.in-Some.ensures.0
