@@ -1,4 +1,6 @@
 // Says whether the reader can take a script from standard input, and what it holds at a glance.
+#![tactic(auto)]
+
 use source::text::LIMIT;
 use std::io;
 use std::io::Read;

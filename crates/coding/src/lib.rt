@@ -1,4 +1,6 @@
 // WTF-8: 16-bit units as bytes, and bytes as units, with nothing lost.
+#![tactic(auto)]
+
 ghost use Rattle.coding.specs.Bench.{Worked, TextWhenPaired, ReadsBack, BenchInBytes};
 
 mod codes;

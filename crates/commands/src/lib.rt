@@ -1,4 +1,6 @@
 // The command lines of an input: a word, one space, and one to eight decimal digits each, then an empty line and the text.
+#![tactic(auto)]
+
 ghost use Rattle.std.specs.Prelude.{◌≡◌, ℕ, List, ◌∷◌, ◌++◌, MatchOption, MatchResult, ◌≢◌};
 ghost use Rattle.commands.specs.Format.{spelled, Number, decimal, Line, Input, NoInput, Lacks};
 

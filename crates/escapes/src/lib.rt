@@ -1,4 +1,6 @@
 // Escapes: what stands behind a backslash.
+#![tactic(auto)]
+
 mod digits;
 mod places;
 pub mod unicode;

@@ -1,4 +1,6 @@
 // The literals of ECMA-262 as a definition, and the reading of a scan: the definitions stand in specs/, and the contract of each function here is a theorem on them.
+#![tactic(auto)]
+
 ghost use Rattle.grammar.specs.Bench.{BenchStands, BenchDerived};
 ghost use Rattle.grammar.specs.Laws.{DerivationsAreOne, ReadingsAreOne, AcceptsExactly, DerivationsAreRead, CharactersAreSteps, NoneExactly, TemplatesFaultAtEnds, MarkIsSeen};
 ghost use Rattle.grammar.specs.Places.{ReadingsStand, DerivationsStand, NothingOffBoundaries};

@@ -1,4 +1,6 @@
 // Replays data/cases.txt: texts, stops, moves and characters, each with the answer expected of it.
+#![tactic(auto)]
+
 use anyhow::anyhow;
 use refusals::Refusal;
 use source::cursor::Cursor;

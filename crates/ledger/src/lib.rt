@@ -1,4 +1,6 @@
 // The ledger of a session's life and its law: the definitions stand in specs/, and the contract of each function here is a theorem on them.
+#![tactic(auto)]
+
 ghost use Rattle.ledger.specs.Laws.{RunsKeep, Begins, GoesOn, CallsDecide};
 ghost use Rattle.ledger.specs.Worked.{ALongLife, WithoutSlots, WithoutPlaces, WithoutCapacity, BrokenOff};
 

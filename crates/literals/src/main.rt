@@ -1,4 +1,6 @@
 // Performs the commands of an input on its text: command lines, an empty line, then the text.
+#![tactic(auto)]
+
 use reports::answer::answer;
 use std::io;
 use std::io::Read;

@@ -1,4 +1,6 @@
 // A look at a literal: its token and counts, its units and its faults, with nothing stored.
+#![tactic(auto)]
+
 pub mod answer;
 pub mod faulty;
 pub mod go;

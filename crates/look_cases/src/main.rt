@@ -1,4 +1,6 @@
 // Replays data/cases.txt: looks at literals, with their units and faults, each with the answer expected of it.
+#![tactic(auto)]
+
 use anyhow::anyhow;
 use faults::Fault;
 use look::answer::{Look, Scan};

@@ -1,4 +1,6 @@
 // The reader for C and Rust: functions on numbers and slices, total on any input.
+#![tactic(auto)]
+
 ghost use Rattle.std.specs.Prelude.{◌≡◌, min, length};
 ghost use Rattle.coding.specs.Codes.{weight as bytes_weight};
 ghost use Rattle.nethrawf.specs.Exports.{Checked, Looks, Serves, limits};

@@ -1,2 +1,4 @@
 // Literals piece by piece.
+#![tactic(auto)]
+
 pub mod piece;

@@ -1,4 +1,6 @@
 // Why a call refuses: one enum for every layer, and the number of each case.
+#![tactic(auto)]
+
 ghost use Rattle.std.specs.Prelude.{◌≡◌};
 ghost use Rattle.refusals.specs.Numbers.{number_of};
 

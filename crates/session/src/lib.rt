@@ -1,4 +1,6 @@
 // A literal session: scans and questions on one text, over lent slots, lent records and a value store, and the law of its whole life.
+#![tactic(auto)]
+
 ghost use Rattle.std.specs.Prelude.{◌≡◌, ℕ, List, [], length};
 ghost use Rattle.store.specs.Held.{dropped};
 ghost use Rattle.session.specs.Views.{lent, memory_of};

@@ -1,4 +1,6 @@
 // Entries by start in lent slots.
+#![tactic(auto)]
+
 mod map;
 mod unique;
 

@@ -1,4 +1,6 @@
 // Stop sets and the search: where a run of plain characters ends.
+#![tactic(auto)]
+
 pub mod search;
 pub mod sets;
 pub mod table;

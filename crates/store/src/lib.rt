@@ -1,4 +1,6 @@
 // Value stores: what every store means and promises, whatever its memory looks like.
+#![tactic(auto)]
+
 ghost use Rattle.std.specs.Prelude.{◌≡◌, ℕ, List, [], length, if◌then◌else◌, Ok, Err, slice_index_or};
 ghost use Rattle.refusals.specs.Numbers.{numbered};
 ghost use Rattle.store.specs.Held.{Held, Lawful, fits, with_unit, has_place, closed, dropped, unit_told, value_length_told, value_unit_told, fills, overlaid};

@@ -1,4 +1,6 @@
 // Tokens: what a scan answers. Faults have a crate of their own.
+#![tactic(auto)]
+
 ghost use Rattle.std.specs.Prelude.{◌≡◌};
 ghost use Rattle.tokens.specs.Names.{word_of, fault_word_of};
 

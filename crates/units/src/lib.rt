@@ -1,4 +1,6 @@
 // A value store over lent 16-bit cells: the units of all values, one after another.
+#![tactic(auto)]
+
 ghost use Rattle.std.specs.Prelude.{◌≡◌, ◌≤◌, min, true, length, take};
 ghost use Rattle.store.specs.Held.{empty};
 ghost use Rattle.store.specs.Cuts.{ordered, narrow};

@@ -1,4 +1,6 @@
 // A value store over lent bytes: the WTF-8 of all values, one after another.
+#![tactic(auto)]
+
 ghost use Rattle.std.specs.Prelude.{◌≡◌, ◌≤◌, min, true, map, length, take};
 ghost use Rattle.store.specs.Held.{empty};
 ghost use Rattle.store.specs.Cuts.{ordered};
