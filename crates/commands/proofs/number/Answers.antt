@@ -12,11 +12,11 @@ returns-then-b-lt48 c h =
     let d : Digit (get_or c.args.digits.now c.loop-b.b-index 0) = All-get_or Digit c.args.digits.now c.loop-b.b-index 0 c.loop-b-test.true h.2 in
     elim c.then-b-lt48.branch [ then-b-lt48-via-then-b-lt48 w ↦ omega (arith, d, w.if-b-lt48.true) | then-b-lt48-via-else-b-lt48+then-b-gt57 w ↦ omega (arith, d, w.if-b-gt57.true) ]
 
-pub overflow-mul-n : goal.overflow-mul-n
-overflow-mul-n c = omega (arith, seven c.loop-b.n c.loop-b.b-index c.loop-b.invariant.2 (omega arith))
+pub overflow_mul-n : goal.overflow_mul-n
+overflow_mul-n c = omega (arith, seven c.loop-b.n c.loop-b.b-index c.loop-b.invariant.2 (omega arith))
 
-pub overflow-add-n : goal.overflow-add-n
-overflow-add-n c = omega (arith, seven c.loop-b.n c.loop-b.b-index c.loop-b.invariant.2 (omega arith), c.from.ensures)
+pub overflow_add-n : goal.overflow_add-n
+overflow_add-n c = omega (arith, seven c.loop-b.n c.loop-b.b-index c.loop-b.invariant.2 (omega arith), c.from.ensures)
 
 pub loop-b-preserved : goal.loop-b-preserved
 loop-b-preserved c =

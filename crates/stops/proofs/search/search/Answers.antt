@@ -5,6 +5,6 @@ use Rattle.stops.proofs.search.search.Goals as goal
 pub returns : goal.returns
 returns g c =
     record {
-      first = c.first-stop.ensures;
-      boundary = first_boundary (g.S.StopSet.stops c.args.set.now) c.args.bytes.now c.args.from c.first-stop.result (g.met.S.StopSet.safe c.args.set.now) c.first-stop.ensures;
+      first = c.first_stop.ensures;
+      boundary = first_boundary (g.S.StopSet.stops c.args.set.now) c.args.bytes.now c.args.from c.first_stop.result (g.met.S.StopSet.safe c.args.set.now) c.first_stop.ensures;
     }

@@ -17,19 +17,19 @@ returns-in-Err g c =
     let h = s.held c.args.store.now in
     let us = c.args.units.now in
     let i = c.loop-unit.unit-index in
-    let so = c.loop-unit.invariant ∙ ap (λ x. holding x (take i us)) c.drop-open.ensures in
+    let so = c.loop-unit.invariant ∙ ap (λ x. holding x (take i us)) c.drop_open.ensures in
     let place = placed h _ _ c.count.ensures c.places.ensures c.if-count-places.false in
-    let n = narrow_all us (λ k. omega (arith, (c.type-inv.units k).fits)) in
+    let n = narrow_all us (λ k. omega (arith, (c.type_inv.units k).fits)) in
     let b = stopped _ _ c.in-Err.ensures.answer in
     record {
       answer = none_told s.weight h (s.held c.loop-unit.store) us i so place s.lawful.heavier n _ c.loop-unit-test.true refl b.0 _ b.1;
-      after = none_kept s.weight h (s.held c.loop-unit.store) us i so place s.lawful.heavier n _ c.loop-unit-test.true refl b.0 _ _ c.put.ensures.after c.drop-open-in-Err.ensures;
+      after = none_kept s.weight h (s.held c.loop-unit.store) us i so place s.lawful.heavier n _ c.loop-unit-test.true refl b.0 _ _ c.put.ensures.after c.drop_open-in-Err.ensures;
     }
 
 pub loop-unit-preserved : goal.loop-unit-preserved
 loop-unit-preserved g c =
     let s = g.S.ValueStore in
-    one_put s.weight (s.held c.drop-open.new.self) (s.held c.loop-unit.store) c.args.units.now c.loop-unit.unit-index c.loop-unit.invariant _ _ c.loop-unit-test.true refl c.put.ensures.after (went _ _ c.in-default.ensures.answer)
+    one_put s.weight (s.held c.drop_open.new.self) (s.held c.loop-unit.store) c.args.units.now c.loop-unit.unit-index c.loop-unit.invariant _ _ c.loop-unit-test.true refl c.put.ensures.after (went _ _ c.in_default.ensures.answer)
 
 pub returns : goal.returns
 returns g c =
@@ -37,7 +37,7 @@ returns g c =
     let h = s.held c.args.store.now in
     let us = c.args.units.now in
     let i = c.loop-unit.unit-index in
-    let so = c.loop-unit.invariant ∙ ap (λ x. holding x (take i us)) c.drop-open.ensures in
+    let so = c.loop-unit.invariant ∙ ap (λ x. holding x (take i us)) c.drop_open.ensures in
     let place = placed h _ _ c.count.ensures c.places.ensures c.if-count-places.false in
     let sound = s.lawful.sound c.loop-unit.store in
     record {

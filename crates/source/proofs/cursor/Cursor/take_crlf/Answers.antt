@@ -8,11 +8,11 @@ past c =
     let s = c.args.self.now in
     past_two s.bytes.now c.in-Some.rest.now s.place.at 13 10 (utf8_from s.bytes.now s.well) (omega arith) (sym c.rest.ensures ∙ c.in-Some.ensures)
 
-pub overflow-sub-self : goal.overflow-sub-self
-overflow-sub-self c = (past c).ranges
+pub overflow_sub-self : goal.overflow_sub-self
+overflow_sub-self c = (past c).fits
 
-pub invariant-of-self : goal.invariant-of-self
-invariant-of-self c = (c.args.self.now.well, (c.args.self.now.short, ((past c).boundary, tt)))
+pub invariant_of-self : goal.invariant_of-self
+invariant_of-self c = record { well = c.args.self.now.well; short = c.args.self.now.short; boundary = (past c).boundary }
 
 pub returns-in-Some : goal.returns-in-Some
 returns-in-Some c =
