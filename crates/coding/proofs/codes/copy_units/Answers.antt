@@ -22,7 +22,7 @@ loop-at-preserved c =
     let at = c.loop-at.at in
     let out = c.loop-at.out in
     let n = c.loop-at.n in
-    elim c.match-begun-at.branch [
+    elim c.match-begun_at.branch [
       | in-Nothing w ↦
           let e = units_at bs at _ c.loop-at-test.true w.in-Nothing.ensures in (
             (λ j. laid (w.out-is j) (w.n-is j) (units (drop (at + 1) bs))) ∙ ap (laid out n) (sym e) ∙ c.loop-at.invariant.0,

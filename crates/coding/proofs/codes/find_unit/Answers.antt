@@ -16,7 +16,7 @@ returns-then-left-eq1 c = second_here _ _ _ _ _ _ (units_at c.args.bytes.now c.l
 
 pub loop-at-preserved : goal.loop-at-preserved
 loop-at-preserved c =
-    elim c.match-begun-at.branch [
+    elim c.match-begun_at.branch [
       | in-Nothing w ↦ sym (λ j. slice_get (units_at c.args.bytes.now c.loop-at.at _ c.loop-at-test.true w.in-Nothing.ensures j) (sym w.left-is j)) ∙ c.loop-at.invariant
       | in-One+else-left-eq0 w ↦ one_on _ _ _ _ _ _ (units_at c.args.bytes.now c.loop-at.at _ c.loop-at-test.true w.in-One.ensures) (omega (arith, w.left-is, w.if-left-eq0.false)) c.loop-at.invariant
       | in-Two+else-left-eq0-2+else-left-eq1 w ↦ two_on _ _ _ _ _ _ _ (units_at c.args.bytes.now c.loop-at.at _ c.loop-at-test.true w.in-Two.ensures) (omega (arith, w.left-is, w.if-left-eq0-2.false, w.if-left-eq1.false)) c.loop-at.invariant

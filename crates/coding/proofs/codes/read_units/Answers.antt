@@ -5,10 +5,10 @@ use Rattle.coding.proofs.codes.read_units.Goals as goal
 
 pub returns-then-many-out : goal.returns-then-many-out
 returns-then-many-out c =
-    let f = lt-leb (length (units c.args.bytes.now)) (length c.args.out.now) (omega (arith, c.unit-count-many.ensures, c.if-many-out.true)) in
+    let f = lt-leb (length (units c.args.bytes.now)) (length c.args.out.now) (omega (arith, c.unit_count-many.ensures, c.if-many-out.true)) in
     record { answer = sym (cond-false _ _ _ f); after = sym (cond-false _ _ _ f) }
 
 pub returns : goal.returns
 returns c =
-    let f = le-leb (length (units c.args.bytes.now)) (length c.args.out.now) (omega (arith, c.unit-count-many.ensures, c.if-many-out.false)) in
-    record { answer = ap Ok c.unit-count-many.ensures ∙ sym (cond-true _ _ _ f); after = c.copy-units.ensures ∙ sym (cond-true _ _ _ f) }
+    let f = le-leb (length (units c.args.bytes.now)) (length c.args.out.now) (omega (arith, c.unit_count-many.ensures, c.if-many-out.false)) in
+    record { answer = ap Ok c.unit_count-many.ensures ∙ sym (cond-true _ _ _ f); after = c.copy_units.ensures ∙ sym (cond-true _ _ _ f) }

@@ -3,25 +3,25 @@ use Rattle.escapes.proofs.Behinds.{braces_none, braces_lift, braces_over, braces
 use Rattle.escapes.proofs.unicode.braces_escape.Goals as goal
 
 pub returns-in-Missing : goal.returns-in-Missing
-returns-in-Missing c = braces_none c.args.bytes.now c.args.at c.args.in-template c.requires.0 c.requires.1 c.in-Missing.ensures
+returns-in-Missing c = braces_none c.args.bytes.now c.args.at c.args.in_template c.requires.0 c.requires.1 c.in-Missing.ensures
 
-pub returns-then-in-template : goal.returns-then-in-template
-returns-then-in-template c =
+pub returns-then-in_template : goal.returns-then-in_template
+returns-then-in_template c =
     let h = c.in-Over.ensures in
-    braces_over c.args.bytes.now c.args.at c.args.in-template h.0 c.in-Over.to c.skip-hex.result c.if-in-template.true c.requires.0 c.requires.1 h.1 h.2 c.skip-hex.ensures
+    braces_over c.args.bytes.now c.args.at c.args.in_template h.0 c.in-Over.to c.skip_hex.result c.if-in_template.true c.requires.0 c.requires.1 h.1 h.2 c.skip_hex.ensures
 
-pub returns-else-in-template : goal.returns-else-in-template
-returns-else-in-template c =
+pub returns-else-in_template : goal.returns-else-in_template
+returns-else-in_template c =
     let h = c.in-Over.ensures in
-    braces_lift c.args.bytes.now c.args.at c.args.in-template h.0 c.in-Over.to c.if-in-template.false c.requires.0 c.requires.1 h.1 h.2
+    braces_lift c.args.bytes.now c.args.at c.args.in_template h.0 c.in-Over.to c.if-in_template.false c.requires.0 c.requires.1 h.1 h.2
 
-pub returns-then-stands-at : goal.returns-then-stands-at
-returns-then-stands-at c =
+pub returns-then-stands_at : goal.returns-then-stands_at
+returns-then-stands_at c =
     let h = c.in-Value.ensures in
-    braces_all c.args.bytes.now c.args.at c.args.in-template c.in-Value.value c.in-Value.to c.unicode-units.result c.requires.0 c.requires.1 h.0 h.1 c.if-stands-at.ensures
-    (c.unicode-units.ensures ∙ c.one-of.ensures.0)
+    braces_all c.args.bytes.now c.args.at c.args.in_template c.in-Value.value c.in-Value.to c.unicode_units.result c.requires.0 c.requires.1 h.0 h.1 c.if-stands_at.ensures
+    (c.unicode_units.ensures ∙ c.one_of.ensures.0)
 
-pub returns-else-stands-at : goal.returns-else-stands-at
-returns-else-stands-at c =
+pub returns-else-stands_at : goal.returns-else-stands_at
+returns-else-stands_at c =
     let h = c.in-Value.ensures in
-    braces_open c.args.bytes.now c.args.at c.args.in-template c.in-Value.value c.in-Value.to c.requires.0 c.requires.1 h.0 h.1 h.2 c.if-stands-at.ensures
+    braces_open c.args.bytes.now c.args.at c.args.in_template c.in-Value.value c.in-Value.to c.requires.0 c.requires.1 h.0 h.1 h.2 c.if-stands_at.ensures

@@ -2,15 +2,15 @@ use Rattle.std.proofs.Common.{ap, ◌∙◌, arith, rules}
 use Rattle.escapes.proofs.Behinds.{prefix_at, low_by}
 use Rattle.escapes.proofs.unicode.low_half.Goals as goal
 
-pub hex_digits_requires : goal.hex_digits_requires
-hex_digits_requires c =
+pub hex_digits-requires : goal.hex_digits-requires
+hex_digits-requires c =
     let s = c.begin-trial.ensures.start in
-    let k = c.if-not-take-unicode-prefix.ensures.cases in
+    let k = c.if-not-take_unicode_prefix.ensures.cases in
     ((prefix_at c.args.bytes.now _ c.args.place.now.at _ _ (ap (λ z. z.at) s.1) s.2 c.requires k.0 (c.at.ensures ∙ k.1)).2, omega arith)
 
 pub returns-else-low-gt57343 : goal.returns-else-low-gt57343
 returns-else-low-gt57343 c =
     let s = c.begin-trial.ensures.start in
-    let k = c.if-not-take-unicode-prefix.ensures.cases in
+    let k = c.if-not-take_unicode_prefix.ensures.cases in
     let d = c.in-All.ensures in
     low_by c.args.bytes.now _ c.args.place.now.at _ _ c.in-All.low c.in-All.to _ (ap (λ z. z.at) s.1) s.2 c.requires k.0 (c.at.ensures ∙ k.1) d.0 d.1 (search rules) c.if-low-lt56320.false c.if-low-gt57343.false

@@ -10,5 +10,5 @@ loop-place-preserved g c =
 
 pub returns : goal.returns
 returns g c =
-    let e = no_more (g.S.StopSet.stops c.args.set.now) c.args.bytes.now c.loop-place.from c.loop-place.invariant.0 c.in-default.ensures.first in
+    let e = no_more (g.S.StopSet.stops c.args.set.now) c.args.bytes.now c.loop-place.from c.loop-place.invariant.0 c.in_default.ensures.first in
     omega arith

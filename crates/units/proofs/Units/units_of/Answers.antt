@@ -7,19 +7,19 @@ use Rattle.units.proofs.Units.units_of.Goals as goal
 pub returns-then-n-self : goal.returns-then-n-self
 returns-then-n-self c = (past c.args.self.now c.args.n c.if-n-self.true, refl)
 
-pub slice_bounds_result_count : goal.slice_bounds_result_count
-slice_bounds_result_count c = let w = value_in c.args.self.now c.args.n c.if-n-self.false in omega (arith, w.0, c.start-of-from.ensures)
+pub slice_bounds-result-count : goal.slice_bounds-result-count
+slice_bounds-result-count c = let w = value_in c.args.self.now c.args.n c.if-n-self.false in omega (arith, w.0, c.start_of-from.ensures)
 
-pub slice_bounds_result_start : goal.slice_bounds_result_start
-slice_bounds_result_start c = let w = value_in c.args.self.now c.args.n c.if-n-self.false in omega (arith, w.0, c.start-of-from.ensures)
+pub slice_bounds-result-start : goal.slice_bounds-result-start
+slice_bounds-result-start c = let w = value_in c.args.self.now c.args.n c.if-n-self.false in omega (arith, w.0, c.start_of-from.ensures)
 
-pub slice_bounds_result_end : goal.slice_bounds_result_end
-slice_bounds_result_end c = let w = value_in c.args.self.now c.args.n c.if-n-self.false in omega (arith, w.1, c.args.self.now.light)
+pub slice_bounds-result-end : goal.slice_bounds-result-end
+slice_bounds-result-end c = let w = value_in c.args.self.now c.args.n c.if-n-self.false in omega (arith, w.1, c.args.self.now.light)
 
 pub returns : goal.returns
 returns c =
     let s = c.args.self.now in
-    (within s c.args.n c.if-n-self.false, ap (λ a. part (cells s) a (get_or (ends s) c.args.n 0)) c.start-of-from.ensures ∙ sym (value_at s c.args.n c.if-n-self.false))
+    (within s c.args.n c.if-n-self.false, ap (λ a. part (cells s) a (get_or (ends s) c.args.n 0)) c.start_of-from.ensures ∙ sym (value_at s c.args.n c.if-n-self.false))
 
-pub offset_bounds_self_from : goal.offset_bounds_self_from
-offset_bounds_self_from c = let w = value_in c.args.self.now c.args.n c.if-n-self.false in omega (arith, w.0, w.1, c.start-of-from.ensures, c.args.self.now.light)
+pub offset_bounds-self-from : goal.offset_bounds-self-from
+offset_bounds-self-from c = let w = value_in c.args.self.now c.args.n c.if-n-self.false in omega (arith, w.0, w.1, c.start_of-from.ensures, c.args.self.now.light)

@@ -11,11 +11,11 @@ returns-then-at-room g c =
     let f = map_full m.slots.now m.used (omega (arith, c.room.ensures, c.if-at-room.true)) in
     record { answer = sym (cond-false _ _ _ f); after = insert_full (entries_of m) (room_of m) c.args.start c.args.value f; refused = λ _. refl; past = refl; room = refl; lent = refl }
 
-pub returns-then-is-some : goal.returns-then-is-some
-returns-then-is-some g c =
+pub returns-then-is_some : goal.returns-then-is_some
+returns-then-is_some g c =
     let m = c.args.self.now in
     let f = map_free m.slots.now m.used (omega (arith, c.room.ensures, c.if-at-room.false)) in
-    let k = ap is_some (sym c.find.ensures) ∙ sym c.is-some.ensures ∙ c.if-is-some.true in
+    let k = ap is_some (sym c.find.ensures) ∙ sym c.is_some.ensures ∙ c.if-is_some.true in
     record { answer = sym (cond-true _ _ _ f); after = insert_had (entries_of m) (room_of m) c.args.start c.args.value f k; refused = λ _. refl; past = refl; room = refl; lent = refl }
 
 pub returns : goal.returns
@@ -24,7 +24,7 @@ returns g c =
     let xs = m.slots.now in
     let h : m.used < min (length xs) 4096 = omega (arith, c.room.ensures, c.if-at-room.false) in
     let f = map_free xs m.used h in
-    let k = ap is_some (sym c.find.ensures) ∙ sym c.is-some.ensures ∙ c.if-is-some.false in
+    let k = ap is_some (sym c.find.ensures) ∙ sym c.is_some.ensures ∙ c.if-is_some.false in
     record {
       answer = sym (cond-true _ _ _ f);
       after = insert_new (entries_of m) (room_of m) c.args.start c.args.value _ f k (ap (entries (m.used + 1)) c.fill.ensures ∙ map_more xs m.used _ h);

@@ -9,8 +9,10 @@ returns-then-used-capacity c =
     let f = full c.args.self.now c.args.unit (omega (arith, c.capacity.ensures, c.if-used-capacity.true)) in
     record { answer = sym (cond-false _ _ _ f); after = sym (cond-false _ _ _ f); leaves = record { same_places = refl; refused = λ _. refl; same_values = refl; past = refl }; lent = (refl, refl) }
 
-pub invariant-of-self : goal.invariant-of-self
-invariant-of-self c = put_kept c.args.self.now c.args.unit (omega (arith, c.capacity.ensures, c.if-used-capacity.false)) c.ranges.unit.fits
+pub invariant_of-self : goal.invariant_of-self
+invariant_of-self c =
+    let k = put_kept c.args.self.now c.args.unit (omega (arith, c.capacity.ensures, c.if-used-capacity.false)) c.ranges.unit.fits in
+    record { few = k.0; light = k.1.0; rising = k.1.1.0; small = k.1.1.1.0 }
 
 pub returns : goal.returns
 returns c =
