@@ -6,4 +6,4 @@ use Rattle.look.proofs.go.pass_escape.Goals as goal
 
 pub returns-in-Invalid : goal.returns-in-Invalid
 returns-in-Invalid c b bs p e g =
-    invalid_passed b bs p c.in-Invalid.next (is_template b) c.args.in-template e (subst (λ z. GoesOn b bs p (units_told (is_template b) z) (faults_told (is_template b) p z) true (reached z)) c.in-Invalid.is g)
+    invalid_passed b bs p c.in-Invalid.next (is_template b) c.args.in_template e (subst (λ z. GoesOn b bs p (units_told (is_template b) z) (faults_told (is_template b) p z) true (reached z)) c.in-Invalid.is g)

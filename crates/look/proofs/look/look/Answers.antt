@@ -11,6 +11,6 @@ returns-in-Some c =
     let n : c.args.start < length bs = let k = ap length e in omega (arith, c.if-start-bytes.false) in (
       n,
       ap (λ z. opens c.args.scan (get_or z c.args.start 0)) (sym e) ∙ h.0,
-      (c.in-Some.opening, h.2, c.look-at.ensures),
-      accepts bs c.args.start c.in-Some.opening c.look-at.result c.look-at.ensures,
+      (c.in-Some.opening, h.2, c.look_at.ensures),
+      accepts bs c.args.start c.in-Some.opening c.look_at.result c.look_at.ensures,
     )

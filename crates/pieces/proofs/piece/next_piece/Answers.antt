@@ -2,8 +2,8 @@ use Rattle.pieces.specs.Pieces.{body_of}
 use Rattle.pieces.proofs.Stops.{stop_met, piece_some, piece_none}
 use Rattle.pieces.proofs.piece.next_piece.Goals as goal
 
-pub stop_at_requires : goal.stop_at_requires
-stop_at_requires c =
+pub stop_at-requires : goal.stop_at-requires
+stop_at-requires c =
     let s = c.args.cursor in
     let h = c.in-Some.ensures in
     stop_met (body_of c.args.opening) s.bytes.now c.bytes.result.now s.place.at c.place.result c.bytes.ensures c.place.ensures s.well s.boundary c.in-Some.place c.in-Some.byte h.first h.boundary
@@ -19,4 +19,4 @@ returns-in-Some c =
     let s = c.args.cursor in
     let h = c.in-Some.ensures in
     piece_some (body_of c.args.opening) s.bytes.now c.bytes.result.now s.place.at c.place.result c.bytes.ensures c.place.ensures s.well s.boundary
-    c.in-Some.place c.in-Some.byte c.stop-at.result h.first h.boundary c.stop-at.ensures
+    c.in-Some.place c.in-Some.byte c.stop_at.result h.first h.boundary c.stop_at.ensures

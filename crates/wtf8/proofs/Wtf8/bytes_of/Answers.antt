@@ -4,7 +4,7 @@ use Rattle.wtf8.proofs.Wtf8.bytes_of.Goals as goal
 
 pub returns : goal.returns
 returns c =
-    let b = c.in-ok-from.ensures in
-    let from = c.in-ok-from.field-0.from in
-    let len = c.in-ok-from.field-0.len in
+    let b = c.in_ok-from.ensures in
+    let from = c.in_ok-from.field-0.from in
+    let len = c.in_ok-from.field-0.len in
     (b.there, ap (λ t. part t from (from + len)) c.bytes-bytes.ensures ∙ b.bytes)

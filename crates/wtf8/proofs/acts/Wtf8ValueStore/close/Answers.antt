@@ -9,8 +9,10 @@ returns-then-n-places c =
     let f = no_place c.args.self.now (omega (arith, c.places.ensures, c.if-n-places.true)) in
     record { answer = sym (cond-false _ _ _ f); after = sym (cond-false _ _ _ f); leaves = record { same_cells = refl; refused = λ _. refl; same_values = refl; past = refl }; lent = (refl, refl) }
 
-pub invariant-of-self : goal.invariant-of-self
-invariant-of-self c = close_kept c.args.self.now (omega (arith, c.places.ensures, c.if-n-places.false))
+pub invariant_of-self : goal.invariant_of-self
+invariant_of-self c =
+    let k = close_kept c.args.self.now (omega (arith, c.places.ensures, c.if-n-places.false)) in
+    record { few = k.0; light = k.1.0; rising = k.1.1.0; whole = k.1.1.1.0; fresh = k.1.1.1.1.0 }
 
 pub returns : goal.returns
 returns c =
