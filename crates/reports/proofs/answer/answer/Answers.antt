@@ -8,6 +8,6 @@ returns-in-Err c = no_text (vec_items c.in-Ok.found.0) c.in-Ok.found.1.now c.arg
 
 pub returns : goal.returns
 returns c =
-    let text = c.in-default.ensures in
-    reported (vec_items c.in-Ok.found.0) c.as-slice.result.now c.in-Ok.found.1.now (bytes_of c.new.result) c.args.input.now c.in-ok-report.report (omega arith) c.in-Ok.ensures text
-    (c.new.ensures.text text) c.as-slice.ensures.value c.in-ok-report.ensures
+    let text = c.in_default.ensures in
+    reported (vec_items c.in-Ok.found.0) c.as_slice.result.now c.in-Ok.found.1.now (bytes_of c.new.result) c.args.input.now c.in_ok-report.report (omega arith) c.in-Ok.ensures text
+    (c.new.ensures.text text) c.as_slice.ensures.value c.in_ok-report.ensures

@@ -7,17 +7,17 @@ use Rattle.reports.proofs.ask.ask_faults.Goals as goal
 pub loop-index-init : goal.loop-index-init
 loop-index-init g c = gathered_none _ _ _ _ _ c.new-faults.ensures.items
 
-pub unreachable_requires : goal.unreachable_requires
-unreachable_requires g c =
-    let count = (c.fault-count-index-end.ensures.called []).step.0 in
-    let many : c.fault-count-index-end.result ≡ length (faults_of c.args.session.now.faults) = cc in
+pub unreachable-requires : goal.unreachable-requires
+unreachable-requires g c =
+    let count = (c.fault_count-index-end.ensures.called []).step.0 in
+    let many : c.fault_count-index-end.result ≡ length (faults_of c.args.session.now.faults) = cc in
     fault_is_told _ c.loop-index.index _ (omega (arith, c.loop-index-test.true)) (c.in-Err.ensures.called []).step.0
 
 pub loop-index-preserved : goal.loop-index-preserved
 loop-index-preserved g c =
-    gathered_more _ _ _ _ _ _ _ _ _ c.loop-index.invariant c.push.ensures.items (ap is_ok c.in-ok-push.was) c.in-Ok.ensures.lives
+    gathered_more _ _ _ _ _ _ _ _ _ c.loop-index.invariant c.push.ensures.items (ap is_ok c.in_ok-push-in-Ok.was) c.in-Ok.ensures.lives
 
 pub returns : goal.returns
 returns g c text =
-    let many : c.fault-count-index-end.result ≡ length (vec_items c.loop-index.faults) = omega (arith, c.loop-index.invariant.count, c.loop-index-test.false, c.loop-index.auto.index-end) in
-    headed _ text _ _ _ _ c.args.session.now c.args.session.now _ _ (ap counted many) (c.fault-count-index-end.ensures.lives text) (c.loop-index.invariant.lives text)
+    let many : c.fault_count-index-end.result ≡ length (vec_items c.loop-index.faults) = omega (arith, c.loop-index.invariant.count, c.loop-index-test.false, c.loop-index.auto.index-end) in
+    headed _ text _ _ _ _ c.args.session.now c.args.session.now _ _ (ap counted many) (c.fault_count-index-end.ensures.lives text) (c.loop-index.invariant.lives text)

@@ -9,11 +9,11 @@ loop-command-init g c = lined_none _ (bytes_of c.args.text) c.args.session.now _
 pub loop-command-preserved : goal.loop-command-preserved
 loop-command-preserved g c =
     let s = g.S.ValueStore in
-    lined_more _ (bytes_of c.args.text) c.args.session.now _ c.args.commands.now c.loop-command.command-index _ _ _ _ _ c.loop-command.session c.carry-out.new.session (s.held c.loop-command.store) (s.held c.carry-out.new.store)
-    c.loop-command-test.true c.loop-command.invariant c.push.ensures.items (ap is_ok c.in-ok-push.was) refl c.in-ok-told.ensures
+    lined_more _ (bytes_of c.args.text) c.args.session.now _ c.args.commands.now c.loop-command.command-index _ _ _ _ _ c.loop-command.session c.carry_out.new.session (s.held c.loop-command.store) (s.held c.carry_out.new.store)
+    c.loop-command-test.true c.loop-command.invariant c.push.ensures.items (ap is_ok c.in_ok-push.was) refl c.in_ok-told.ensures
 
 pub returns : goal.returns
 returns g c =
     let s = g.S.ValueStore in
     lined_all _ (bytes_of c.args.text) c.args.session.now _ c.args.commands.now c.loop-command.command-index _ c.loop-command.session (s.held c.loop-command.store)
-    c.loop-command-test.false c.loop-command.invariant (c.in-ok-faults.ensures (bytes_of c.args.text))
+    c.loop-command-test.false c.loop-command.invariant (c.in_ok-faults.ensures (bytes_of c.args.text))

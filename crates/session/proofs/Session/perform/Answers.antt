@@ -17,9 +17,9 @@ returns-in-Unit g c =
 pub returns-in-FaultCount : goal.returns-in-FaultCount
 returns-in-FaultCount g c =
     let s = g.S.ValueStore in
-    question s.weight (bytes_of c.args.text) c.args.call call.FaultCount c.args.self.now (s.held c.args.store.now) _ _ c.in-FaultCount.is refl c.fault-count.ensures
+    question s.weight (bytes_of c.args.text) c.args.call call.FaultCount c.args.self.now (s.held c.args.store.now) _ _ c.in-FaultCount.is refl c.fault_count.ensures
 
 pub returns-in-FaultAt : goal.returns-in-FaultAt
 returns-in-FaultAt g c =
     let s = g.S.ValueStore in
-    question s.weight (bytes_of c.args.text) c.args.call (call.FaultAt c.in-FaultAt.index) c.args.self.now (s.held c.args.store.now) _ _ c.in-FaultAt.is c.fault_told.ensures c.fault-at.ensures
+    question s.weight (bytes_of c.args.text) c.args.call (call.FaultAt c.in-FaultAt.index) c.args.self.now (s.held c.args.store.now) _ _ c.in-FaultAt.is c.fault_told.ensures c.fault_at.ensures

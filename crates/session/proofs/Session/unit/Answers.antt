@@ -13,5 +13,5 @@ returns-in-None-number g c =
 
 pub returns-in-Some-number : goal.returns-in-Some-number
 returns-in-Some-number g c =
-    a_unit g.S.ValueStore.weight c.args.self.now (g.S.ValueStore.held c.args.store.now) c.args.start c.args.index c.in-Some-number.n c.value-unit.result c.value-unit.ensures
+    a_unit g.S.ValueStore.weight c.args.self.now (g.S.ValueStore.held c.args.store.now) c.args.start c.args.index c.in-Some-number.n c.value_unit.result c.value_unit.ensures
     (sym (c.in-Some.is ∙ ap Some c.in-Some-number.is) ∙ c.entry.ensures)

@@ -13,7 +13,7 @@ pub returns-in-Ok : goal.returns-in-Ok
 returns-in-Ok g c r us reads is none =
     let s = g.S.ValueStore in
     let h = s.held c.args.store.now in
-    let p = c.put-units.ensures r us reads is in
+    let p = c.put_units.ensures r us reads is in
     let free = a_slot AsNumber s.weight c.args.strings.now h c.args.start (Some us) _ _ c.count.ensures c.room.ensures c.if-count-room.false in
     filed AsNumber s.weight c.args.strings.now h c.args.start (Some us) c.insert.result _ _ (Some c.in-Ok.number) c.in-Ok.number refl free none
     (stored s.weight h us c.in-Ok.number _ (ap numbered (sym c.in-Ok.is) ∙ p.0) p.1)
@@ -23,6 +23,6 @@ pub returns-in-Err : goal.returns-in-Err
 returns-in-Err g c r us reads is none =
     let s = g.S.ValueStore in
     let h = s.held c.args.store.now in
-    let p = c.put-units.ensures r us reads is in
+    let p = c.put_units.ensures r us reads is in
     let free = a_slot AsNumber s.weight c.args.strings.now h c.args.start (Some us) _ _ c.count.ensures c.room.ensures c.if-count-room.false in
     unput AsNumber s.weight c.args.strings.now h c.args.start (Some us) c.in-Err.refusal _ free (unstored s.weight h us _ _ (ap numbered (sym c.in-Err.is) ∙ p.0) p.1)

@@ -24,7 +24,7 @@ returns-in-Ok g c r reads is none =
     let h = s.held c.args.store.now in
     let free = a_slot AsOption s.weight c.args.templates.now h c.args.start (units_read r) _ _ c.count.ensures c.room.ensures c.if-count-room.false in
     filed AsOption s.weight c.args.templates.now h c.args.start (units_read r) c.insert-in-Ok.result _ _ (Some c.in-Ok.number) (Some c.in-Ok.number) refl free none
-    (put_by s.weight h (units_read r) c.in-Ok.number _ (sym is ∙ c.if-not-cooked.false) (λ us e. let p = c.put-units.ensures r us reads e in (ap numbered (sym c.in-Ok.is) ∙ p.0, p.1)))
+    (put_by s.weight h (units_read r) c.in-Ok.number _ (sym is ∙ c.if-not-cooked.false) (λ us e. let p = c.put_units.ensures r us reads e in (ap numbered (sym c.in-Ok.is) ∙ p.0, p.1)))
     c.insert-in-Ok.ensures.answer c.insert-in-Ok.ensures.after c.insert-in-Ok.ensures.past c.insert-in-Ok.ensures.room
 
 pub returns-in-Err : goal.returns-in-Err
@@ -33,4 +33,4 @@ returns-in-Err g c r reads is none =
     let h = s.held c.args.store.now in
     let free = a_slot AsOption s.weight c.args.templates.now h c.args.start (units_read r) _ _ c.count.ensures c.room.ensures c.if-count-room.false in
     unput AsOption s.weight c.args.templates.now h c.args.start (units_read r) c.in-Err.refusal _ free
-    (unput_by s.weight h (units_read r) _ _ (sym is ∙ c.if-not-cooked.false) (λ us e. let p = c.put-units.ensures r us reads e in (ap numbered (sym c.in-Err.is) ∙ p.0, p.1)))
+    (unput_by s.weight h (units_read r) _ _ (sym is ∙ c.if-not-cooked.false) (λ us e. let p = c.put_units.ensures r us reads e in (ap numbered (sym c.in-Err.is) ∙ p.0, p.1)))

@@ -10,17 +10,17 @@ units-smaller-in-Unit g c = (c.in-Unit.ensures.told c.args.start c.units.invaria
 pub units-preserved-in-Unit : goal.units-preserved-in-Unit
 units-preserved-in-Unit g c =
     let s = g.S.ValueStore in
-    one_more s.weight _ (s.held c.units.store) (bytes_of c.args.text) c.args.start c.units.reader c.units.ranges c.units.invariant s.lawful.heavier c.in-Unit.unit c.put-on-fits.ensures.narrow
-    _ _ _ (c.in-Unit.ensures.told c.args.start c.units.invariant.given c.units.invariant.gave).0 c.in-Unit.ensures.text.0 c.put-on-fits.ensures.answer c.put-on-fits.ensures.after
+    one_more s.weight _ (s.held c.units.store) (bytes_of c.args.text) c.args.start c.units.reader c.units.fits c.units.invariant s.lawful.heavier c.in-Unit.unit c.put_on-fits.ensures.narrow
+    _ _ _ (c.in-Unit.ensures.told c.args.start c.units.invariant.given c.units.invariant.gave).0 c.in-Unit.ensures.text.0 c.put_on-fits.ensures.answer c.put_on-fits.ensures.after
 
-pub units_smaller : goal.units_smaller
-units_smaller g c = (c.in-Nothing.ensures.told c.args.start c.units.invariant.given c.units.invariant.gave).1
+pub units-smaller : goal.units-smaller
+units-smaller g c = (c.in-Nothing.ensures.told c.args.start c.units.invariant.given c.units.invariant.gave).1
 
 pub returns-in-End : goal.returns-in-End
 returns-in-End g c r us reads is =
     let s = g.S.ValueStore in
     let h = s.held c.args.store.now in
-    let mid = rebased s.weight h _ (s.held c.units.store) (bytes_of c.args.text) c.args.start c.units.reader c.units.ranges c.drop-open.ensures c.units.invariant in
+    let mid = rebased s.weight h _ (s.held c.units.store) (bytes_of c.args.text) c.args.start c.units.reader c.units.fits c.drop_open.ensures c.units.invariant in
     let place = placed h _ _ c.count.ensures c.places.ensures c.if-count-places.false in
-    finished s.weight h (s.held c.units.store) (bytes_of c.args.text) c.args.start c.units.reader c.units.ranges mid c.units.reader.opening
+    finished s.weight h (s.held c.units.store) (bytes_of c.args.text) c.args.start c.units.reader c.units.fits mid c.units.reader.opening
     (c.in-End.ensures.told c.args.start mid.given mid.gave) r us reads is place (s.lawful.sound c.units.store) _ _ c.finish.ensures.closes c.finish.ensures.drops
