@@ -1,6 +1,6 @@
 -- The lines of commands in front of a text. Assumes nothing.
 use Rattle.std.specs.Prelude.{◌≡◌, ℕ, ◌+◌, ◌-◌, ◌*◌, ◌≤◌, List, [], ◌∷◌, ◌++◌, length, codes, fold, ◌≢◌}
-use Rattle.std.specs.List.{AllByRecursion as All}
+use Rattle.std.specs.List.{AllByRecursion}
 use Rattle.commands.specs.declared.kinds.Word.{Word}
 use Rattle.commands.specs.declared.kinds.Word.TheVariants.{Str, Template, Resume, Value}
 use Rattle.commands.specs.declared.kinds.Command.{Command}
@@ -21,7 +21,7 @@ decimal ds = fold (λ n b. n * 10 + (b - 48)) 0 ds
 
 -- one to eight decimal digits
 abbrev pub Number : List ℕ → Type 0
-Number ds = (1 ≤ length ds) × (length ds ≤ 8) × All Digit ds
+Number ds = (1 ≤ length ds) × (length ds ≤ 8) × AllByRecursion Digit ds
 
 -- the line is a word, a space and a number
 abbrev pub Line : Command → List ℕ → Type 0
@@ -29,7 +29,7 @@ Line c xs = (ds : List ℕ) × (xs ≡ spelled c.word ++ ds) × Number ds × (c.
 
 -- no byte is a line feed
 abbrev pub Lacks : List ℕ → Type 0
-Lacks xs = All (λ b. b ≢ 10) xs
+Lacks xs = AllByRecursion (λ b. b ≢ 10) xs
 
 -- an input is a line for each command, an empty line, and the text
 abbrev pub Input : List Command → List ℕ → List ℕ → Type 0

@@ -1,6 +1,6 @@
 -- The bench stands: each case is found by trying the tables, and compared.
 use Rattle.std.proofs.Common.{◌≡◌, ℕ, T, List, [], ◌∷◌, is_some, sym, refl, ap, ◌∙◌, subst}
-use Rattle.std.specs.List.{AllByRecursion as All}
+use Rattle.std.specs.List.{AllByRecursion}
 use Rattle.std.specs.Str.{chars}
 use Rattle.grammar.specs.Utf8.{utf8}
 use Rattle.grammar.specs.Literal.{Derivable}
@@ -14,11 +14,11 @@ Agrees c =
     × ((the (find (utf8 c.bytes) 40 c.scan 0) i).0.scan ≡ c.scan) × ((the (find (utf8 c.bytes) 40 c.scan 0) i).0.from ≡ 0)
     × (tells (the (find (utf8 c.bytes) 40 c.scan 0) i).0 ≡ c.told)
 
-all_by : (cs : List Case) → All Agrees cs → All Stands cs
+all_by : (cs : List Case) → AllByRecursion Agrees cs → AllByRecursion Stands cs
 all_by [] h = tt
 all_by (c ∷ cs) h = let f = the (find (utf8 c.bytes) 40 c.scan 0) h.0.0 in ((f.0, f.1, h.0.1, h.0.2, h.0.3), all_by cs h.1)
 
-agreed : All Agrees bench
+agreed : AllByRecursion Agrees bench
 unfolding chars
 agreed = ((tt, refl, refl, refl), ((tt, refl, refl, refl), ((tt, refl, refl, refl), ((tt, refl, refl, refl), ((tt, refl, refl, refl), ((tt, refl, refl, refl), ((tt, refl, refl, refl), ((tt, refl, refl, refl), ((tt, refl, refl, refl), ((tt, refl, refl, refl), ((tt, refl, refl, refl), tt)))))))))))
 
@@ -33,7 +33,7 @@ derived c (r, x, s, f, h) = (
   (λ k e u d. sym (ap (λ (z : Told). z.faults) h) ∙ ((accepts_exactly (utf8 c.bytes) r k e u x).1 (subst (λ (z : ℕ). Derivable (utf8 c.bytes) z k e u) (sym f) d)).faultless),
 )
 
-all_derived : (cs : List Case) → All Stands cs → All Derived cs
+all_derived : (cs : List Case) → AllByRecursion Stands cs → AllByRecursion Derived cs
 all_derived [] h = tt
 all_derived (c ∷ cs) h = (derived c h.0, all_derived cs h.1)
 

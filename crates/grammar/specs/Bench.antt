@@ -1,6 +1,6 @@
 -- The bench: literals, and what their readings tell. Assumes nothing.
 use Rattle.std.specs.Prelude.{◌≡◌, ℕ, Bool, true, false, cond, List, [], ◌∷◌, ◌++◌, Some, None, codes, Option}
-use Rattle.std.specs.List.{AllByRecursion as All}
+use Rattle.std.specs.List.{AllByRecursion}
 use Rattle.grammar.specs.Utf8.{utf8}
 use Rattle.grammar.specs.Literal.{Kind, str, no_substitution_template, template_head, Derivable}
 use Rattle.grammar.specs.Reading.{Scan, double_scan, template_scan, Read, Reading}
@@ -65,7 +65,7 @@ abbrev pub Stands : Case → Type 0
 Stands c = (r : Read) × Reading (utf8 c.bytes) r × (r.scan ≡ c.scan) × (r.from ≡ 0) × (tells r ≡ c.told)
 
 abbrev pub BenchStands : Type 0
-BenchStands = All Stands bench
+BenchStands = AllByRecursion Stands bench
 
 -- those of a kind and without a fault are derived by the standard, so; those with a fault are not derived at all
 abbrev pub Derived : Case → Type 0
@@ -74,4 +74,4 @@ Derived c =
     × ((k : Kind) (e : ℕ) (u : Option (List ℕ)) → Derivable (utf8 c.bytes) 0 k e u → c.told.faults ≡ [])
 
 abbrev pub BenchDerived : Type 0
-BenchDerived = All Derived bench
+BenchDerived = AllByRecursion Derived bench

@@ -1,7 +1,7 @@
 -- Each case is tried by a test, which antt computes; and what the test says.
 use Rattle.std.proofs.Common.{◌≡◌, ℕ, Bool, true, false, cond, not, ◌&&◌, T, eqb, List, [], ◌∷◌, length, get_or, is_some, Some, None, Option, sym, refl, ap, subst, ap₂, eqb→eq, T_not}
 use lib.Dec.{eqb_refl}
-use Rattle.std.specs.List.{AllByRecursion as All}
+use Rattle.std.specs.List.{AllByRecursion}
 use Rattle.std.specs.Str.{chars}
 use Rattle.grammar.specs.Utf8.{utf8}
 use Rattle.grammar.specs.Literal.{Kind, Derivable}
@@ -101,7 +101,7 @@ abbrev every : List Case → Bool
 every [] = true
 every (c ∷ cs) = check c && every cs
 
-all_say : (cs : List Case) → T (every cs) → All Agrees cs
+all_say : (cs : List Case) → T (every cs) → AllByRecursion Agrees cs
 all_say [] h = tt
 all_say (c ∷ cs) h =
     let (a, b) = both (check c) (every cs) h in

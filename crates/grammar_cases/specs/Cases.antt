@@ -1,6 +1,6 @@
 -- Literals and the answers of a JavaScript engine, written by tools/engine_cases.py. Assumes nothing.
 use Rattle.std.specs.Prelude.{ℕ, List, [], ◌∷◌}
-use Rattle.std.specs.List.{AllByRecursion as All}
+use Rattle.std.specs.List.{AllByRecursion}
 use Rattle.grammar_cases.specs.Engine.{Verdict, accepted, uncooked, refused, Case, Agrees}
 
 abbrev case : List ℕ → Verdict → Case
@@ -1759,4 +1759,4 @@ cases =
     ∷ []
 
 abbrev pub EngineAgrees : Type 0
-EngineAgrees = All Agrees cases
+EngineAgrees = AllByRecursion Agrees cases

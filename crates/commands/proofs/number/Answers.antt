@@ -1,5 +1,5 @@
 use Rattle.std.proofs.Common.{◌≡◌, ◌+◌, ◌-◌, ◌*◌, ◌<◌, ◌≤◌, length, get_or, take, sym, ap, ◌∙◌, subst, arith, take_all, rules}
-use Rattle.std.specs.List.{AllByRecursion as All}
+use Rattle.std.specs.List.{AllByRecursion}
 use Rattle.std.proofs.ByRecursion.{All-get_or, All-more}
 use Rattle.std.proofs.lemmas.List.Sums.{fold_more}
 use Rattle.commands.specs.Format.{Digit, decimal}
@@ -28,4 +28,4 @@ loop-b-preserved c =
 pub returns : goal.returns
 returns c =
     let whole = take_all c.loop-b.b-index c.args.digits.now c.loop-b-test.false in
-    ((search rules, search rules, subst (All Digit) whole c.loop-b.invariant.1), c.loop-b.invariant.0 ∙ ap decimal whole)
+    ((search rules, search rules, subst (AllByRecursion Digit) whole c.loop-b.invariant.1), c.loop-b.invariant.0 ∙ ap decimal whole)
