@@ -1,19 +1,22 @@
 -- Requests one after another. Assumes nothing.
 use Rattle.std.proofs.Common.{◌≡◌, ℕ, zero, suc, ◌+◌, ◌<◌, ◌≤◌, min, List, [], ◌∷◌, ◌++◌, map, length, get_or, take, drop, set, Some, None, Option, sym, refl, ap, ◌∙◌, subst, append_assoc, append-nil, arith, length-append}
-use lib.Seq.{length_front}
-use Rattle.std.proofs.lemmas.List.{take_more, take_more_set, drop-set-lt}
+use Rattle.std.proofs.lemmas.List.{take_more, take_more_set, drop-set-lt, length-take-le}
 use Rattle.store.specs.Held.{Held}
 use Rattle.ledger.specs.Calls as ask
 use Rattle.session.specs.declared.Session.{Session}
 use Rattle.session.specs.declared.Call.{Call}
 use Rattle.session.specs.declared.Answer.{Answer}
-use Rattle.session.specs.Calls.{Carries, LivesOn}
+use Rattle.ledger.specs.Ledger.{Limits}
+use Rattle.ledger.specs.Life.{Lived}
+use Rattle.session.specs.Calls.{Lives, Carries, LivesOn}
+use Rattle.session.specs.Views.{limits_of, ledger_of}
 use Rattle.session.specs.Performs.{asked, reply}
 use Rattle.session.proofs.Carrying.{still, joined, as_told}
 use Rattle.nethrawf.specs.declared.forms.Request.{Request}
 use Rattle.nethrawf.specs.declared.forms.Response.{Response}
 use Rattle.nethrawf.specs.Numbers.{asks, written}
 use Rattle.nethrawf.specs.Lives.{exchanged, exchanges, MalformedRefused, Responded, Served}
+use Rattle.nethrawf.specs.Exports.{LivedThrough}
 
 module _ (w : List ℕ → ℕ) (text : List ℕ) (x : Session) (h : Held) where
   -- one request, asking for a call or for none
@@ -99,7 +102,7 @@ module _ (w : List ℕ → ℕ) (text : List ℕ) (x : Session) (h : Held) (qs :
       → Responded w text x₁ h₁ (get_or qs i q) r x₂ h₂ → Sofar w text x h qs rs₀ (i + 1) (set rs i r) x₂ h₂
   next i rs q r x₁ x₂ h₁ h₂ p p' got one =
       let asked_more : take (i + 1) qs ≡ take i qs ++ (get_or qs i q ∷ []) = take_more qs i q p in
-      let same : length (take i qs) ≡ length got.replies = length_front qs i (omega arith) ∙ sym got.all in
+      let same : length (take i qs) ≡ length got.replies = length-take-le i qs (omega arith) ∙ sym got.all in
       record {
         replies = got.replies ++ (one.reply ∷ []);
         all = length-append got.replies (one.reply ∷ []) ∙ ap (λ (k : ℕ). k + 1) got.all;
@@ -121,3 +124,22 @@ module _ (w : List ℕ → ℕ) (text : List ℕ) (x : Session) (h : Held) (qs :
     lives =
         as_told w text x h _ _ x' h' (ap (λ (k : ℕ). exchanges (take k qs) got.replies) (sym got.all) ∙ exchanges_all qs got.replies) got.lives;
   }
+
+-- a life from the making on, over a store without values
+pub lived_through :
+    (w : List ℕ → ℕ) (text : List ℕ) (m m' : Limits) (stored : List (List ℕ)) (qs : List Request) (rs₀ rs : List Response) (x x' : Session) (h h' : Held) → m' ≡ m → stored ≡ []
+    → Lives w m' text stored [] x h → Served w text x h qs rs₀ rs x' h' → LivedThrough w m text qs rs₀ rs
+lived_through w text m m' stored qs rs₀ rs x x' h h' e none made got =
+    let life = got.lives m' stored [] made in
+    record {
+      replies = got.replies;
+      all = got.all;
+      told = got.told;
+      past = got.past;
+      malformed = got.malformed;
+      held = ledger_of x' h';
+      lived =
+          subst (λ v. Lived w m text v (exchanges qs got.replies) m (ledger_of x' h')) none
+          (subst (λ v. Lived w v text stored (exchanges qs got.replies) v (ledger_of x' h')) e
+          (subst (λ v. Lived w m' text stored (exchanges qs got.replies) v (ledger_of x' h')) life.limits life));
+    }
