@@ -1,9 +1,9 @@
 -- A high half at the end of bytes. Assumes nothing.
-use Rattle.std.proofs.Common.{◌≡◌, ℕ, ◌+◌, ◌-◌, ◌*◌, ◌/◌, ◌%◌, ◌<◌, ◌≤◌, Bool, true, false, cond, ◌&&◌, ltb, leb, List, [], ◌∷◌, ◌++◌, length, get_or, take, drop, sym, refl, ap, ◌∙◌, subst, ⊎_elim, arith}
+use Rattle.std.proofs.Common.{◌≡◌, ℕ, ◌+◌, ◌-◌, ◌*◌, ◌/◌, ◌%◌, ◌<◌, ◌≤◌, Bool, true, false, cond, ltb, leb, List, [], ◌∷◌, ◌++◌, length, get_or, take, drop, sym, refl, ap, ◌∙◌, ⊎_elim, arith}
 use lib.Utf8.{encode, next}
 use Rattle.std.proofs.lemmas.List.{append_assoc, length-append, take-append-drop, drop_more, drop_all, get_or-append-add}
 use Rattle.std.proofs.lemmas.Bool.{le-leb, lt-ltb, and_from, cond-true, cond-false, cases_Bool, true≢false}
-use Rattle.coding.specs.Codes.{high, low, wtf8, starts, units, trail, recode}
+use Rattle.coding.specs.Codes.{high, wtf8, starts, units, trail, recode}
 use Rattle.coding.proofs.Trips.{starts_0, trail_more, wtf8_high, front, high_range, encode_3}
 
 units_tail : (x t : List ℕ) → (p : List ℕ) × (units (x ++ t) ≡ p ++ units t)

@@ -1,9 +1,9 @@
 -- The units of bytes, one byte after another. Assumes nothing.
-use Rattle.std.proofs.Common.{◌≡◌, ℕ, zero, suc, ◌+◌, ◌-◌, ◌*◌, ◌/◌, ◌%◌, ◌<◌, ◌≤◌, Bool, true, false, cond, ltb, List, [], ◌∷◌, ◌++◌, length, get_or, take, drop, set, Some, None, Ok, Err, Option, Result, sym, refl, ap, ◌∙◌, subst, ⊎_elim, add-zero, arith}
+use Rattle.std.proofs.Common.{◌≡◌, ℕ, suc, ◌+◌, ◌*◌, ◌/◌, ◌%◌, ◌<◌, ◌≤◌, Bool, true, false, cond, ltb, List, [], ◌∷◌, ◌++◌, length, get_or, drop, Some, None, Ok, Err, Option, sym, ap, ◌∙◌, ⊎_elim, arith}
 use Rattle.std.specs.List.{slice_get}
 use Rattle.std.proofs.lemmas.Option.{slice_get-get_or, slice_get_past}
 use Rattle.std.proofs.lemmas.Bool.{cases_lt, lt-ltb, le-ltb, cond-true, cond-false}
-use Rattle.std.proofs.lemmas.List.{length-append, get_or-drop, at_drop_more, at_drop_all, append_assoc, length-set, drop-set-lt, take_more_set, take-append-drop}
+use Rattle.std.proofs.lemmas.List.{length-append, get_or-drop, at_drop_more, at_drop_all}
 use Rattle.store.specs.Held.{unit_told}
 use Rattle.coding.specs.Codes.{two, three, four, starts, units}
 use Rattle.coding.proofs.Trips.{starts_2, starts_3, starts_4}

@@ -1,7 +1,7 @@
 -- Worked examples of WTF-8, when its bytes are text, and the way back. Assumes nothing.
 use Rattle.std.specs.Prelude.{◌≡◌, ℕ, true, List, [], ◌∷◌, map, Some, None, IsUtf8, Option}
 use Rattle.std.proofs.Math.Utf8.{scalars}
-use Rattle.grammar.specs.Bench.{Case, bench, BenchStands}
+use Rattle.grammar.specs.Bench.{bench, BenchStands}
 use Rattle.store.specs.Held.{Narrow}
 use Rattle.coding.specs.Codes.{points, wtf8, units}
 

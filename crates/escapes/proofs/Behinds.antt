@@ -1,18 +1,18 @@
 -- What each reader of an escape answers, from what it saw in the bytes. Assumes nothing.
-use Rattle.std.proofs.Common.{◌≡◌, ℕ, zero, suc, ◌+◌, ◌-◌, ◌*◌, ◌<◌, ◌≤◌, Bool, true, false, T, ◌⊎◌, List, [], ◌∷◌, length, drop, sym, refl, ap, ◌∙◌, subst, inl, inr, arith}
+use Rattle.std.proofs.Common.{◌≡◌, ℕ, zero, suc, ◌+◌, ◌*◌, ◌<◌, ◌≤◌, Bool, true, false, T, ◌⊎◌, List, [], ◌∷◌, length, drop, sym, refl, ap, ◌∙◌, subst, inl, inr, arith}
 use Rattle.std.proofs.lemmas.Bool.Decides.{nat_tests}
 use Rattle.std.proofs.lemmas.Str.{len_utf8_ascii}
 use Rattle.grammar.specs.Text.{char}
 use Rattle.grammar.specs.Utf8.{utf8}
-use Rattle.grammar.specs.Rule.{Ahead, but, member, digit, mv, Run, hex_digits, just_above, meets}
-use Rattle.grammar.specs.Production.{chars, points, decimal_digits, decimal_digit, octal_digits, octal_digit, code_point}
+use Rattle.grammar.specs.Rule.{Ahead, but, mv, Run, hex_digits, just_above, meets}
+use Rattle.grammar.specs.Production.{chars, octal_digits, code_point}
 use Rattle.grammar.specs.Value.{utf16}
 use Rattle.source.specs.Fronts.{Begins}
 use Rattle.escapes.specs.Places.{At, Here, Stands}
 use Rattle.escapes.specs.Digits.{Digit, DecimalAt, Digits, Skipped}
-use Rattle.escapes.specs.Escapes.{Alone, Joined, Wrong, Behind, Low, Leads, listed}
+use Rattle.escapes.specs.Escapes.{Alone, Behind, Low, Leads, listed}
 use Rattle.escapes.specs.declared.unicode.Units.{Units}
-use Rattle.escapes.specs.declared.unicode.Units.TheVariants.{Nothing, One, Two}
+use Rattle.escapes.specs.declared.unicode.Units.TheVariants.{Nothing, One}
 use Rattle.escapes.specs.declared.unicode.Escape.TheVariants.{Gives, Invalid}
 use Rattle.escapes.specs.declared.unicode.Lead.TheVariants.{Single, Nul, Octal, ZeroDecimal, Decimal, Other}
 use Rattle.escapes.proofs.Looks.{stands_moves, stands_here, two_here, second_ahead}

@@ -1,7 +1,7 @@
 -- What a byte at a place tells of the character there. Assumes nothing.
-use Rattle.std.proofs.Common.{◌≡◌, ℕ, ◌+◌, ◌-◌, ◌<◌, ◌≤◌, true, T, List, [], ◌∷◌, ◌++◌, length, get_or, drop, Some, IsUtf8, sym, refl, ap, ◌∙◌, subst, ⊎_elim, arith, T_not, length-drop}
+use Rattle.std.proofs.Common.{◌≡◌, ℕ, ◌+◌, ◌-◌, ◌<◌, ◌≤◌, true, T, List, [], ◌∷◌, ◌++◌, length, get_or, drop, Some, sym, refl, ap, ◌∙◌, subst, ⊎_elim, arith, T_not, length-drop}
 use lib.Dec.{not_T}
-use lib.Utf8.{encode, scalar, scalar_cases}
+use lib.Utf8.{encode, scalar_cases}
 use Rattle.std.specs.Char.{len_utf8}
 use Rattle.std.specs.Str.{IsCharBoundary}
 use Rattle.std.proofs.lemmas.List.{drop_more, get_or-drop}

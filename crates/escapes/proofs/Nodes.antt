@@ -1,12 +1,12 @@
 -- The characters of the grammar behind a backslash, from what the readers saw. `m` is true in templates. Assumes nothing.
-use Rattle.std.proofs.Common.{◌≡◌, ℕ, zero, suc, ◌+◌, ◌-◌, ◌*◌, ◌<◌, ◌≤◌, Bool, true, false, not, ◌||◌, T, ltb, leb, ◌⊎◌, List, [], ◌∷◌, ◌++◌, length, Some, None, Option, sym, refl, ap, ◌∙◌, subst, inl, inr, arith, ltb→lt, lt→ltb}
+use Rattle.std.proofs.Common.{◌≡◌, ℕ, ◌+◌, ◌-◌, ◌*◌, ◌<◌, ◌≤◌, Bool, true, false, not, ◌||◌, T, ltb, ◌⊎◌, List, [], ◌∷◌, ◌++◌, length, Some, Option, sym, refl, ap, ◌∙◌, subst, inl, inr, arith, ltb→lt, lt→ltb}
 use Rattle.std.proofs.lemmas.Bool.Decides.{nat_tests}
 use Rattle.grammar.specs.Text.{Text, Spot, over, char}
 use Rattle.grammar.specs.Rule.{Rule, Span, ◌▸◌, done, lookahead_not, Ahead, but, only, within, among, member, hex_digit, hex_digits, digit, Run, mv, mv_from, above, just_above, meets, Matches}
 use Rattle.grammar.specs.Production.{lf, cr, ls, ps, crlf, zero_alone, one_digit, two_low, two_high, three_digits}
 use Rattle.grammar.specs.Production.{EscapeSequence, single_escape, non_escape, nul, legacy_octal, non_octal_decimal, hex_escape, unicode_hex4, unicode_code_point}
 use Rattle.grammar.specs.Production.{NotEscapeSequence, zero_decimal, decimal_not_zero, x0, x1, u0, u1, u2, u3, brace0, brace_not_code_point, brace_code_point}
-use Rattle.grammar.specs.Production.{escape, line_continuation, chars, points, one_of, this, octal_digits, octal_digit, decimal_digits, decimal_digit, decimal_digit_not_zero, eight_nine, code_point}
+use Rattle.grammar.specs.Production.{escape, line_continuation, chars, points, this, octal_digits, octal_digit, decimal_digits, decimal_digit, decimal_digit_not_zero, eight_nine, code_point}
 use Rattle.grammar.specs.Production.{single_escape_characters, non_escape_character, escape_sequence, template_escape_sequence, not_escape_sequence}
 use Rattle.grammar.specs.Value.{utf16, single_escape_value, character_value}
 use Rattle.grammar.specs.Recovery.{BadEscape, bad_escape, bad_x0, bad_x1, bad_u0, bad_u1, bad_u2, bad_u3, bad_brace0, bad_brace_over, bad_brace_open}

@@ -1,11 +1,11 @@
 -- Hex digits in a row, from what the digit reader saw. Assumes nothing.
-use Rattle.std.proofs.Common.{◌≡◌, ℕ, zero, suc, ◌+◌, ◌-◌, ◌*◌, ◌<◌, ◌≤◌, Bool, true, false, cond, T, ltb, leb, List, [], ◌∷◌, ◌++◌, length, drop, Some, None, sym, refl, ap, ◌∙◌, subst, arith, le→leb, ltb→lt, lt→ltb, length-append}
-use Rattle.grammar.specs.Text.{Text, char}
+use Rattle.std.proofs.Common.{◌≡◌, ℕ, ◌+◌, ◌*◌, ◌<◌, ◌≤◌, T, List, [], ◌∷◌, ◌++◌, length, sym, refl, subst, arith, length-append}
+use Rattle.grammar.specs.Text.{Text}
 use Rattle.grammar.specs.Utf8.{utf8}
-use Rattle.grammar.specs.Rule.{Ahead, but, member, hex_digit, hex_digits, digit, Run, mv, mv_from, but_last, just_above, meets}
+use Rattle.grammar.specs.Rule.{member, hex_digit, hex_digits, digit, Run, mv, just_above, meets}
 use Rattle.grammar.specs.Production.{code_point}
 use Rattle.grammar.proofs.Digits.{run_push, mv_push, meets_most, meets_lifted}
-use Rattle.escapes.specs.Places.{At, Here}
+use Rattle.escapes.specs.Places.{At}
 use Rattle.escapes.specs.Digits.{Digit, Digits}
 
 pub length_more : (ds : List ℕ) (d : ℕ) → length (ds ++ d ∷ []) ≡ length ds + 1

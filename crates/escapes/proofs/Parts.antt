@@ -1,12 +1,12 @@
 -- The escape read behind a backslash, as steps of a reading. Assumes nothing.
-use Rattle.std.proofs.Common.{◌≡◌, ℕ, ◌+◌, ◌<◌, Bool, true, false, ◌||◌, ◌⊎◌, List, [], ◌∷◌, ◌++◌, drop, Some, None, Option, sym, refl, ap, ◌∙◌, subst, inl, inr}
+use Rattle.std.proofs.Common.{◌≡◌, ℕ, ◌<◌, Bool, true, false, ◌||◌, List, [], ◌∷◌, ◌++◌, drop, Some, None, Option, sym, refl, ap, ◌∙◌, subst, inl, inr}
 use Rattle.grammar.specs.Text.{Text, Spot, over, char}
 use Rattle.grammar.specs.Utf8.{utf8}
 use Rattle.grammar.specs.Rule.{Rule, ◌▸◌, only, absent, Ahead, Matches, mv, codes}
 use Rattle.grammar.specs.Production.{LineTerminatorSequence, line_terminator_sequence, EscapeSequence, unicode_hex4, escape_sequence, not_escape_sequence, one_of}
 use Rattle.grammar.specs.Production.{Character, source_character, line_separator, paragraph_separator, dollar, escape, not_escape, line_continuation, line_terminator}
 use Rattle.grammar.specs.Value.{character_value, joined}
-use Rattle.grammar.specs.Literal.{Body, double, single, template, Node, Chain}
+use Rattle.grammar.specs.Literal.{Body, double, single, template}
 use Rattle.grammar.specs.Recovery.{bad_escape}
 use Rattle.grammar.specs.Reading.{Step, proper, bad, step_rule}
 use Rattle.grammar.specs.Outcome.{Fault, step_value, step_faults, step_marks, units_from, faults_of, any_marks, marks}

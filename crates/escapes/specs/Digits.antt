@@ -1,5 +1,5 @@
 -- What the readers of digits answer. Assumes nothing.
-use Rattle.std.specs.Prelude.{◌≡◌, ℕ, ◌+◌, ◌<◌, Bool, true, false, T, List, [], ◌∷◌, length, Some, None, Option}
+use Rattle.std.specs.Prelude.{◌≡◌, ℕ, ◌+◌, ◌<◌, Bool, true, false, T, List, length, Some, None, Option}
 use Rattle.grammar.specs.Utf8.{utf8}
 use Rattle.grammar.specs.Rule.{Span, Ahead, but, only, member, hex_digits, digit, Run, mv, just_above, meets}
 use Rattle.grammar.specs.Production.{code_point, decimal_digit, decimal_digits}

@@ -1,9 +1,9 @@
 -- What the readers of escapes answer: steps of a reading from the backslash on, with their units and faults. Assumes nothing.
-use Rattle.std.specs.Prelude.{◌≡◌, ℕ, ◌+◌, ◌<◌, ◌≤◌, Bool, true, false, cond, T, ◌⊎◌, List, [], ◌∷◌, ◌++◌, length, drop, Some, None, Option}
+use Rattle.std.specs.Prelude.{◌≡◌, ℕ, ◌+◌, ◌<◌, ◌≤◌, Bool, true, false, cond, T, ◌⊎◌, List, [], ◌∷◌, length, drop, Some, None, Option}
 use Rattle.grammar.specs.Text.{Text, over, char}
 use Rattle.grammar.specs.Utf8.{utf8}
 use Rattle.grammar.specs.Rule.{Rule, absent, Matches, only, member, mv, digit}
-use Rattle.grammar.specs.Production.{NotEscapeSequence, EscapeSequence, unicode_hex4, escape_sequence, template_escape_sequence, not_escape_sequence, line_terminator_sequence}
+use Rattle.grammar.specs.Production.{NotEscapeSequence, unicode_hex4, escape_sequence, template_escape_sequence, not_escape_sequence, line_terminator_sequence}
 use Rattle.grammar.specs.Production.{Character, source_character, line_separator, paragraph_separator, dollar, escape, not_escape, line_continuation, line_terminator}
 use Rattle.grammar.specs.Production.{single_escape_characters, non_escape_character, octal_digit, decimal_digit_not_zero, eight_nine}
 use Rattle.grammar.specs.Value.{character_value, single_escape_value, utf16}

@@ -1,5 +1,5 @@
 -- The places of readings and derivations in UTF-8 bytes. Assumes nothing.
-use Rattle.std.specs.Prelude.{◌≡◌, ℕ, ◌<◌, List, IsUtf8, Option, ◌≢◌}
+use Rattle.std.specs.Prelude.{ℕ, ◌<◌, List, IsUtf8, Option, ◌≢◌}
 use Rattle.std.specs.Str.{IsCharBoundary}
 use Rattle.grammar.specs.Utf8.{utf8}
 use Rattle.grammar.specs.Literal.{Kind, Tree, Derivation}

@@ -1,5 +1,5 @@
 -- A run of the ledger is a life that keeps the law. Assumes nothing.
-use Rattle.std.proofs.Common.{◌≡◌, ℕ, ◌+◌, ◌-◌, ◌<◌, ◌≤◌, Bool, true, false, cond, ltb, ◌⊎◌, ◌↔◌, List, [], ◌∷◌, ◌++◌, map, length, get_or, is_some, Some, None, Option, sym, refl, ap, ◌∙◌, subst, inl, inr, ⊎_elim, append-nil, arith}
+use Rattle.std.proofs.Common.{◌≡◌, ℕ, ◌<◌, Bool, true, false, cond, ltb, ◌⊎◌, ◌↔◌, List, [], ◌∷◌, ◌++◌, map, length, get_or, is_some, Some, None, Option, sym, refl, ap, ◌∙◌, subst, inl, inr, ⊎_elim, append-nil, arith}
 use Rattle.std.proofs.lemmas.List.{length-append, map_push}
 use Rattle.std.proofs.lemmas.Bool.{cases_Bool, cases_lt, ltb-true, lt-ltb}
 use Rattle.grammar.specs.Utf8.{utf8}
@@ -14,12 +14,12 @@ use Rattle.grammar.proofs.Unique.{derivations_are_one}
 use Rattle.tokens.specs.declared.Token.{Token}
 use Rattle.tokens.specs.Grammar.{named, recorded}
 use Rattle.slots.proofs.Distincts.{one_a_start}
-use Rattle.ledger.specs.Calls.{Sort, Call, scan, value, unit, fault_count, fault_at, Reply, token, refused, turned_down, Exchange, says}
+use Rattle.ledger.specs.Calls.{Sort, Call, scan, value, unit, fault_count, fault_at, Reply, token, turned_down, says}
 use Rattle.ledger.specs.Ledger.{Limits, Ledger, made, token_of, has_entry, added, exceeded, Decided, Scanned, opens, kept_at, value_told, unit_told, value_asked, unit_asked, Step}
 use Rattle.ledger.specs.Ledger.{needed_records, needed_slots, needed_places, needed_weight, free_records, free_slots, free_places, free_capacity}
 use Rattle.ledger.specs.Life.{Line, exchange, Run, Among, Then, Accepts, Derived, Verbatim, Exceeds, Lived}
 use Rattle.ledger.specs.Laws.{RunsKeep, Begins, GoesOn, calls_of, CallsDecide}
-use Rattle.ledger.proofs.Values.{some_none, some_same, true_false, named_same, none_recorded, verbatim_is, unmarked_steps, faultless_by}
+use Rattle.ledger.proofs.Values.{true_false, named_same, none_recorded, verbatim_is, unmarked_steps, faultless_by}
 use Rattle.ledger.proofs.Runs.{kept_run, kept_at_line, kept_then, line_step, run_more, draft_empty, then_first, then_second}
 use Rattle.ledger.proofs.Entries.{One, one_made, one_added, Good, good_made, good_added, kept_told, entry_stays, entry_made, kept_some}
 

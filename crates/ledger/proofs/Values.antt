@@ -1,14 +1,13 @@
 -- What derivations and readings tell: the script between the delimiters, faults, and units. Assumes nothing.
-use Rattle.std.proofs.Common.{◌≡◌, ℕ, ◌≤◌, Bool, true, false, cond, ◌&&◌, ◌||◌, T, leb, ◌⊎◌, List, [], ◌∷◌, ◌++◌, get_or, is_some as option_is_some, Some, None, Option, sym, refl, ap, ◌∙◌, subst, ap₂, inl, inr, ⊎_elim, arith}
+use Rattle.std.proofs.Common.{◌≡◌, ℕ, Bool, true, false, cond, ◌&&◌, ◌||◌, T, leb, ◌⊎◌, List, [], ◌∷◌, ◌++◌, get_or, is_some as option_is_some, Some, None, Option, sym, refl, ap, ◌∙◌, subst, ap₂, inl, inr, ⊎_elim, arith}
 use Rattle.std.proofs.lemmas.Bool.{leb-true}
 use Rattle.grammar.specs.Text.{Text, char}
 use Rattle.grammar.specs.Utf8.{utf8}
-use Rattle.grammar.specs.Rule.{Class, but, member, Rule, ◌▸◌, ahead, Matches, codes}
+use Rattle.grammar.specs.Rule.{Class, but, member, ◌▸◌, ahead, Matches, codes}
 use Rattle.grammar.specs.Production.{Character, source_character, line_separator, paragraph_separator, dollar, escape, not_escape, line_continuation, line_terminator, lf, cr, ls, ps, crlf}
 use Rattle.grammar.specs.Production.{points, chars, line_terminators, this, string_character, template_character}
 use Rattle.grammar.specs.Value.{utf16, character_value, joined}
 use Rattle.grammar.specs.Literal.{Kind, str, no_substitution_template, template_head, template_middle, template_tail, Body, double, single, template, character_rule, Node, Tree, Chain, Derivation, units_of, body_of}
-use Rattle.grammar.specs.Recovery.{Break}
 use Rattle.grammar.specs.Reading.{Scan, double_scan, single_scan, template_scan, resumption, body_read, Step, proper, bad, step_rule, Ending, closed, substitution, broken, Read, Reading, as_steps}
 use Rattle.grammar.specs.Outcome as outcome
 use Rattle.grammar.specs.Outcome.{kind_at, kind_read, marks, any_marks, mark_read, faults_read, end_faults, units_from, units_read}

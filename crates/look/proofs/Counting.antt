@@ -1,5 +1,5 @@
 -- The units of a literal counted. Assumes nothing.
-use Rattle.std.proofs.Common.{◌≡◌, ℕ, ◌+◌, ◌-◌, ◌*◌, ◌<◌, ◌≤◌, List, [], ◌∷◌, ◌++◌, length, sym, refl, ap, ◌∙◌, subst, arith, length-append}
+use Rattle.std.proofs.Common.{◌≡◌, ℕ, ◌+◌, ◌<◌, ◌≤◌, List, [], ◌∷◌, ◌++◌, length, sym, ap, ◌∙◌, subst, arith, length-append}
 use Rattle.pieces.specs.declared.piece.Opening.{Opening}
 use Rattle.look.specs.Units.{Gave, AllGiven, CountedUnits, togo}
 use Rattle.look.specs.declared.units.UnitReader.{UnitReader}

@@ -1,11 +1,10 @@
 -- The reader of faults, step by step. Assumes nothing.
-use Rattle.std.proofs.Common.{◌≡◌, ℕ, zero, suc, ◌+◌, ◌-◌, ◌<◌, ◌≤◌, Bool, true, false, cond, ◌||◌, List, [], ◌∷◌, ◌++◌, length, Some, None, Option, sym, refl, ap, ◌∙◌, subst, ap₂, append_assoc, arith}
+use Rattle.std.proofs.Common.{◌≡◌, ℕ, zero, suc, ◌+◌, ◌-◌, ◌<◌, ◌≤◌, Bool, true, false, cond, ◌||◌, List, [], ◌∷◌, ◌++◌, length, Some, sym, refl, ap, ◌∙◌, subst, ap₂, append_assoc, arith}
 use Rattle.std.specs.Str.{IsCharBoundary}
 use Rattle.faults.specs.declared.list.Fault.{Fault}
 use Rattle.faults.specs.declared.list.FaultKind.TheVariants.{Unterminated, InvalidEscape}
 use Rattle.grammar.specs.Utf8.{utf8}
 use Rattle.grammar.specs.Value.{joined}
-use Rattle.grammar.specs.Reading as grammar
 use Rattle.grammar.specs.Outcome as outcome
 use Rattle.tokens.specs.Grammar.{recorded, fault_of}
 use Rattle.escapes.specs.Places.{At}
@@ -20,7 +19,6 @@ use Rattle.look.specs.Told.{due, FaultsUpto, AllTold, ToldAt, Told, left_at, lef
 use Rattle.look.specs.Units.{Opened}
 use Rattle.look.specs.declared.faulty.FaultStep as step
 use Rattle.look.specs.declared.faulty.FaultReader.{FaultReader}
-use Rattle.look.specs.declared.faulty.Standing.{Standing}
 use Rattle.look.specs.declared.faulty.Standing.TheVariants.{Inside, Behind}
 use Rattle.look.specs.declared.go.Passed.{Passed}
 use Rattle.look.proofs.Running.{piece_moves}

@@ -1,20 +1,17 @@
 -- The reader of units, step by step. Assumes nothing.
-use Rattle.std.proofs.Common.{◌≡◌, ℕ, ◌+◌, ◌-◌, ◌*◌, ◌<◌, ◌≤◌, Bool, true, false, ◌||◌, List, [], ◌∷◌, ◌++◌, length, Some, None, Option, sym, refl, ap, ◌∙◌, subst, ap₂, append_assoc, arith}
+use Rattle.std.proofs.Common.{◌≡◌, ℕ, ◌+◌, ◌<◌, ◌≤◌, false, ◌||◌, List, [], ◌∷◌, ◌++◌, length, Some, None, Option, sym, refl, ap, ◌∙◌, subst, ap₂, append_assoc, arith}
 use Rattle.grammar.specs.Text.{char}
 use Rattle.grammar.specs.Utf8.{utf8}
 use Rattle.grammar.specs.Value.{utf16, joined}
-use Rattle.grammar.specs.Literal.{Body}
-use Rattle.grammar.specs.Reading as grammar
-use Rattle.grammar.specs.Outcome.{Fault}
-use Rattle.escapes.specs.Places.{At, Stands}
+use Rattle.escapes.specs.Places.{At}
 use Rattle.escapes.specs.Escapes.{Part, listed}
 use Rattle.escapes.specs.declared.unicode.Units.{Units}
-use Rattle.escapes.proofs.Parts.{part_join, no_step, append-nil}
+use Rattle.escapes.proofs.Parts.{part_join, append-nil}
 use Rattle.escapes.proofs.Looks.{stands_by, stands_moves}
 use Rattle.source.specs.Texts.{CharAt}
 use Rattle.std.specs.Str.{IsCharBoundary}
 use Rattle.pieces.specs.Plain.{Plain, spelt, utf16s}
-use Rattle.pieces.specs.Pieces.{scan_of, body_of, GoesOn, Ends}
+use Rattle.pieces.specs.Pieces.{scan_of, body_of}
 use Rattle.pieces.specs.declared.piece.Opening.{Opening}
 use Rattle.look.specs.Units.{Opened, Holds, GivenRead, pending, Sofar, AllGiven, Gave, togo, Stepped, step_units, goes_on}
 use Rattle.look.specs.declared.units.UnitStep as step

@@ -1,5 +1,5 @@
 -- How a literal goes on at an invalid escape. Assumes nothing.
-use Rattle.std.proofs.Common.{◌≡◌, ℕ, Bool, true, false, not, List, sym, refl, ap, ◌∙◌, subst}
+use Rattle.std.proofs.Common.{◌≡◌, ℕ, Bool, true, false, not, List, refl, subst}
 use Rattle.grammar.specs.Literal.{Body}
 use Rattle.escapes.specs.Escapes.{units_told, faults_told}
 use Rattle.escapes.specs.declared.unicode.Escape.TheVariants.{Invalid}

@@ -1,14 +1,11 @@
 -- From a literal run through to the look at it. Assumes nothing.
-use Rattle.std.proofs.Common.{◌≡◌, ℕ, zero, suc, ◌+◌, ◌<◌, ◌≤◌, Bool, true, false, cond, ◌&&◌, ◌||◌, T, eqb, ◌⊎◌, ◌↔◌, List, [], ◌∷◌, ◌++◌, length, get_or, is_some, Some, None, IsUtf8, Option, sym, refl, ap, ◌∙◌, subst, ap₂, inl, inr, arith, length-append}
-use Rattle.std.specs.Str.{IsCharBoundary}
+use Rattle.std.proofs.Common.{◌≡◌, ℕ, zero, suc, ◌+◌, ◌<◌, Bool, true, false, cond, ◌&&◌, List, [], ◌∷◌, length, get_or, is_some, Some, None, Option, sym, refl, ap, ◌∙◌, subst, ap₂, arith, length-append}
 use Rattle.std.proofs.lemmas.Str.{IsCharBoundary-before_ascii}
-use Rattle.faults.specs.declared.list.Fault.{Fault}
 use Rattle.grammar.specs.Utf8.{utf8}
 use Rattle.grammar.specs.Rule.{Matches}
 use Rattle.grammar.specs.Literal as literal
 use Rattle.grammar.specs.Reading as grammar
 use Rattle.grammar.specs.Outcome as outcome
-use Rattle.grammar.specs.Laws.{Unfaulted}
 use Rattle.grammar.proofs.Exact.{accepts_exactly}
 use Rattle.grammar.proofs.Leaves.{takes}
 use Rattle.grammar.proofs.Readings.{readings_are_one}
@@ -17,7 +14,7 @@ use Rattle.tokens.specs.declared.Kind as kind
 use Rattle.tokens.specs.declared.Kind.{Kind}
 use Rattle.source.specs.Texts.{WellFormed}
 use Rattle.source.proofs.Known.{utf8_from}
-use Rattle.escapes.specs.Places.{At, Here}
+use Rattle.escapes.specs.Places.{Here}
 use Rattle.escapes.proofs.Looks.{here}
 use Rattle.escapes.proofs.Nodes.{stop}
 use Rattle.pieces.specs.Pieces.{scan_of, ending_of}

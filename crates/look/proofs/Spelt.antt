@@ -6,10 +6,10 @@ use Rattle.std.specs.Str.{chars}
 use Rattle.std.proofs.lemmas.List.{take_at}
 use Rattle.std.proofs.lemmas.Bool.{and_parts}
 use Rattle.std.proofs.lemmas.Str.{IsUtf8-between, scalars-chars, chars-encodes, drop_past_char, length-encode, chars-nil}
-use Rattle.grammar.specs.Text.{Spot, over, char}
+use Rattle.grammar.specs.Text.{char}
 use Rattle.grammar.specs.Utf8.{utf8}
 use Rattle.grammar.proofs.Runs.{same_char}
-use Rattle.escapes.specs.Places.{At, Stands}
+use Rattle.escapes.specs.Places.{At}
 use Rattle.pieces.specs.Plain.{spelt}
 use Rattle.pieces.proofs.Plains.{spelt_bytes, char_spelt}
 

@@ -1,16 +1,11 @@
 -- How a literal goes on at a stop, and how far it is read. Assumes nothing.
-use Rattle.std.specs.Prelude.{◌≡◌, ℕ, ◌+◌, ◌≤◌, Bool, cond, List, [], ◌∷◌, length, is_some, Option}
-use Rattle.grammar.specs.Utf8.{utf8}
+use Rattle.std.specs.Prelude.{◌≡◌, ℕ, cond, List, [], ◌∷◌, is_some, Option}
 use Rattle.grammar.specs.Literal.{Body}
 use Rattle.grammar.specs.Outcome.{Fault, fault, invalid_escape}
-use Rattle.escapes.specs.Places.{At}
-use Rattle.escapes.specs.Escapes.{Part}
-use Rattle.pieces.specs.Pieces.{body_of, ending_of, GoesOn, Ends}
-use Rattle.pieces.specs.declared.piece.Opening.{Opening}
+use Rattle.pieces.specs.Pieces.{ending_of, GoesOn, Ends}
 use Rattle.look.specs.declared.go.Passed.{Passed}
 use Rattle.look.specs.declared.go.Go.{Go}
 use Rattle.look.specs.declared.go.Go.TheVariants.{On, End}
-use Rattle.look.specs.Units.{Opened}
 
 -- the faults of a stop at p
 abbrev pub faults_at : ℕ → Passed → List Fault

@@ -1,5 +1,5 @@
 -- A literal run through to its end. Assumes nothing.
-use Rattle.std.specs.Prelude.{◌≡◌, ℕ, ◌+◌, ◌≤◌, Bool, List, length, is_some, Option}
+use Rattle.std.specs.Prelude.{◌≡◌, ℕ, ◌+◌, ◌≤◌, List, length, is_some, Option}
 use Rattle.grammar.specs.Utf8.{utf8}
 use Rattle.grammar.specs.Outcome.{Fault}
 use Rattle.escapes.specs.Escapes.{Part}

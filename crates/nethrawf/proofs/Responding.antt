@@ -1,5 +1,5 @@
 -- Requests one after another. Assumes nothing.
-use Rattle.std.proofs.Common.{◌≡◌, ℕ, zero, suc, ◌+◌, ◌<◌, ◌≤◌, min, List, [], ◌∷◌, ◌++◌, map, length, get_or, take, drop, set, Some, None, Option, sym, refl, ap, ◌∙◌, subst, append_assoc, append-nil, arith, length-append}
+use Rattle.std.proofs.Common.{◌≡◌, ℕ, ◌+◌, ◌<◌, min, List, [], ◌∷◌, ◌++◌, map, length, get_or, take, drop, set, Some, None, sym, refl, ap, ◌∙◌, subst, append_assoc, append-nil, arith, length-append}
 use Rattle.std.proofs.lemmas.List.{take_more, take_more_set, drop-set-lt, length-take-le}
 use Rattle.store.specs.Held.{Held}
 use Rattle.ledger.specs.Calls as ask
@@ -9,7 +9,7 @@ use Rattle.session.specs.declared.Answer.{Answer}
 use Rattle.ledger.specs.Ledger.{Limits}
 use Rattle.ledger.specs.Life.{Lived}
 use Rattle.session.specs.Calls.{Lives, Carries, LivesOn}
-use Rattle.session.specs.Views.{limits_of, ledger_of}
+use Rattle.session.specs.Views.{ledger_of}
 use Rattle.session.specs.Performs.{asked, reply}
 use Rattle.session.proofs.Carrying.{still, joined, as_told}
 use Rattle.nethrawf.specs.declared.forms.Request.{Request}

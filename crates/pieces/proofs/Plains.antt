@@ -1,5 +1,5 @@
 -- Bytes with no stop among them, from boundary to boundary, are plain characters. Assumes nothing.
-use Rattle.std.proofs.Common.{◌≡◌, ℕ, ◌+◌, ◌-◌, ◌<◌, ◌≤◌, Bool, true, false, not, ◌||◌, T, eqb, leb, ◌⊎◌, List, [], ◌∷◌, ◌++◌, length, get_or, take, drop, Some, IsUtf8, sym, refl, ap, ◌∙◌, subst, inl, inr, ⊎_elim, append_assoc, arith, leb→le, T_not, length-append, length-drop, take-append-drop}
+use Rattle.std.proofs.Common.{◌≡◌, ℕ, ◌+◌, ◌-◌, ◌<◌, ◌≤◌, Bool, true, false, not, ◌||◌, T, eqb, leb, List, [], ◌∷◌, ◌++◌, length, get_or, take, drop, Some, sym, refl, ap, ◌∙◌, subst, ⊎_elim, append_assoc, arith, leb→le, T_not, length-append, length-drop, take-append-drop}
 use lib.Dec.{not_T}
 use lib.Utf8.{encode, encodes}
 use Rattle.std.specs.Char.{len_utf8}
@@ -10,8 +10,8 @@ use Rattle.std.proofs.lemmas.Str.{byte_from_char, drop_past_char, IsUtf8-drop, I
 use Rattle.std.proofs.lemmas.Bool.Decides.{nat_tests}
 use Rattle.grammar.specs.Text.{Text, char}
 use Rattle.grammar.specs.Utf8.{utf8}
-use Rattle.grammar.specs.Rule.{Span, but, member, among, within, Matches}
-use Rattle.grammar.specs.Production.{Character, source_character, line_separator, paragraph_separator, line_terminator, lf, ls, ps, points, line_terminators, this}
+use Rattle.grammar.specs.Rule.{but, member, among, within, Matches}
+use Rattle.grammar.specs.Production.{Character, source_character, line_separator, paragraph_separator, line_terminator, lf, ls, ps, points, this}
 use Rattle.grammar.specs.Value.{utf16, character_value}
 use Rattle.grammar.specs.Literal.{Body, double, single, template}
 use Rattle.grammar.specs.Reading.{proper, step_rule}

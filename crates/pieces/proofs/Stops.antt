@@ -5,7 +5,7 @@ use Rattle.std.proofs.lemmas.Bool.{eqb-true, ne_eqb}
 use Rattle.std.proofs.lemmas.Str.{IsCharBoundary-end}
 use Rattle.grammar.specs.Text.{Text, Spot, over, char}
 use Rattle.grammar.specs.Utf8.{utf8}
-use Rattle.grammar.specs.Rule.{Rule, ◌▸◌, lookahead_not, text_over, Ahead, but, only, among, member, Matches}
+use Rattle.grammar.specs.Rule.{Rule, ◌▸◌, lookahead_not, text_over, Ahead, but, only, among, Matches}
 use Rattle.grammar.specs.Production.{dollar, line_terminator, cr, crlf, points, one_of, chars}
 use Rattle.grammar.specs.Literal.{Body, double, single, template}
 use Rattle.grammar.specs.Recovery as recovery

@@ -1,5 +1,5 @@
 -- A piece of a literal: plain characters, and what stops them. Assumes nothing.
-use Rattle.std.specs.Prelude.{ℕ, ◌+◌, ◌<◌, ◌≤◌, Bool, true, false, List, [], ◌∷◌, Some, None, Option}
+use Rattle.std.specs.Prelude.{ℕ, ◌+◌, ◌<◌, ◌≤◌, Bool, true, false, List, [], ◌∷◌, Some, Option}
 use Rattle.grammar.specs.Utf8.{utf8}
 use Rattle.grammar.specs.Rule.{Leaf, Takes}
 use Rattle.grammar.specs.Literal.{Body, double, single, template}
@@ -9,7 +9,6 @@ use Rattle.grammar.specs.Reading as grammar
 use Rattle.stops.specs.Stops as stops
 use Rattle.escapes.specs.Escapes.{Part, is_template, units_told, faults_told, reached}
 use Rattle.escapes.specs.Places.{At}
-use Rattle.escapes.specs.declared.unicode.Escape.{Escape as AnEscape}
 use Rattle.pieces.specs.declared.piece.Opening.{Opening}
 use Rattle.pieces.specs.declared.piece.Opening.TheVariants.{Double, Single, Template, Resumption}
 use Rattle.pieces.specs.declared.piece.Ending.{Ending}

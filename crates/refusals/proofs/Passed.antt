@@ -1,5 +1,5 @@
 -- A refusal that `?` passes on keeps its number. Assumes nothing.
-use Rattle.std.proofs.Common.{◌≡◌, ℕ, IsErrAnd, Ok, Err, Result, ap}
+use Rattle.std.proofs.Common.{◌≡◌, IsErrAnd, Ok, Err, Result, ap}
 use Rattle.refusals.specs.declared.Refusal.{Refusal}
 use Rattle.refusals.specs.Numbers.{number_of, numbered}
 

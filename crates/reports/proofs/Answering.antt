@@ -1,15 +1,15 @@
 -- From an input to its report. Assumes nothing.
-use Rattle.std.proofs.Common.{◌≡◌, ℕ, ◌+◌, ◌<◌, ◌≤◌, ◌⊎◌, List, [], ◌∷◌, ◌++◌, length, IfOk, Ok, Err, IsUtf8, Result, sym, refl, ap, ◌∙◌, subst, inl, inr, arith, length-append}
+use Rattle.std.proofs.Common.{◌≡◌, ℕ, ◌+◌, ◌≤◌, List, [], ◌∷◌, length, IfOk, Ok, Err, Result, refl, ap, ◌∙◌, subst, inr, arith, length-append}
 use Rattle.refusals.specs.declared.Refusal.{Refusal}
 use Rattle.refusals.specs.declared.Refusal.TheVariants.{TooLong, NotUtf8, StartPastEnd, WrongOpening, IndexPastEnd, UnlawfulPattern, MalformedCommand, NoEntry, NoRecord, NoSlot, NoPlace, NoCapacity, PartNotUtf8}
 use Rattle.refusals.specs.Numbers.{number_of}
 use Rattle.source.specs.Checks.{NoText}
 use Rattle.source.specs.Texts.{IsText}
 use Rattle.store.specs.Held.{Held, empty}
-use Rattle.ledger.specs.Ledger.{Limits, Ledger}
+use Rattle.ledger.specs.Ledger.{Limits}
 use Rattle.ledger.specs.Life.{Lived}
 use Rattle.session.specs.declared.Session.{Session}
-use Rattle.session.specs.Views.{lent, limits_of, ledger_of}
+use Rattle.session.specs.Views.{lent, ledger_of}
 use Rattle.session.specs.Calls.{Lives}
 use Rattle.commands.specs.declared.kinds.Command.{Command}
 use Rattle.commands.specs.Format.{Input}

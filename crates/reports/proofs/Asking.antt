@@ -2,8 +2,6 @@
 use Rattle.std.proofs.Common.{◌≡◌, ℕ, zero, suc, ◌+◌, ◌<◌, Bool, true, false, cond, ltb, List, [], ◌∷◌, ◌++◌, length, get_or, Some, None, Ok, Option, sym, refl, ap, ◌∙◌, subst, arith, length-append}
 use Rattle.std.proofs.ResultArms.{chosen}
 use Rattle.std.proofs.lemmas.Bool.{lt-ltb}
-use Rattle.refusals.specs.declared.Refusal.{Refusal}
-use Rattle.refusals.specs.Numbers.{number_of}
 use Rattle.faults.specs.declared.list.Fault.{Fault}
 use Rattle.store.specs.Held.{Held, dropped}
 use Rattle.ledger.specs.Calls as ask
@@ -14,7 +12,7 @@ use Rattle.session.specs.Views.{ledger_of}
 use Rattle.session.specs.Replies.{value_reply}
 use Rattle.session.specs.Calls.{Carries, Asks, LivesOn}
 use Rattle.session.proofs.Carrying.{still, joined, as_told}
-use Rattle.reports.specs.Transcript.{each_told, units_told, faults_told}
+use Rattle.reports.specs.Transcript.{each_told, units_told}
 use Rattle.reports.proofs.Carrying.{each_more}
 
 refused_unit : (us : List ℕ) (i n : ℕ) (b : Bool) → ltb i (length us) ≡ b → i < length us → ask.refused n ≡ cond b (ask.united (get_or us i 0)) (ask.refused 5) → ⊥

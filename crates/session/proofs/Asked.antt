@@ -1,7 +1,7 @@
 -- What the questions reply is what the ledger says. Assumes nothing.
-use Rattle.std.proofs.Common.{◌≡◌, ℕ, zero, suc, ◌<◌, ◌≤◌, Bool, true, false, cond, ◌||◌, eqb, ltb, List, [], ◌∷◌, length, get_or, Some, None, Ok, Err, Option, Result, sym, refl, ap, ◌∙◌, subst, ⊎_elim, arith}
+use Rattle.std.proofs.Common.{◌≡◌, ℕ, zero, suc, Bool, true, false, cond, ◌||◌, eqb, ltb, List, [], ◌∷◌, length, get_or, Some, None, Ok, Err, Option, Result, sym, refl, ap, ◌∙◌, arith}
 use Rattle.std.proofs.lemmas.List.{get_or_past}
-use Rattle.std.proofs.lemmas.Bool.{ltb-false, le-ltb, cond-true, cond-false, cases_Bool}
+use Rattle.std.proofs.lemmas.Bool.{ltb-false, le-ltb, cond-false}
 use Rattle.refusals.specs.declared.Refusal.{Refusal}
 use Rattle.refusals.specs.Numbers.{number_of, numbered}
 use Rattle.faults.specs.declared.list.Fault.{Fault}
@@ -9,8 +9,8 @@ use Rattle.faults.specs.Records.{faults_of, fault_told}
 use Rattle.slots.specs.Entries.{lookup}
 use Rattle.slots.specs.Views.{entries_of}
 use Rattle.store.specs.Held.{Held, dropped, value_length_told, value_unit_told}
-use Rattle.ledger.specs.Calls.{Call, value, unit, fault_count, fault_at, Reply, valued, united, counted, faulted, refused}
-use Rattle.ledger.specs.Ledger.{Ledger, number_by, number_at, value_numbered, kept_by, value_told, unit_told, value_asked, unit_asked, fault_by}
+use Rattle.ledger.specs.Calls.{value, unit, fault_count, fault_at, Reply, united, counted, refused}
+use Rattle.ledger.specs.Ledger.{number_by, value_numbered, kept_by, value_told, unit_told, value_asked, unit_asked, fault_by}
 use Rattle.session.specs.declared.Session.{Session}
 use Rattle.session.specs.declared.Value.{Value}
 use Rattle.session.specs.Replies.{value_reply, unit_by, unit_reply, fault_reply, value_of}

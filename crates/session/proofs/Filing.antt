@@ -1,5 +1,5 @@
 -- A value filed: a slot, a place and capacity, and then an entry. Assumes nothing.
-use Rattle.std.proofs.Common.{◌≡◌, ℕ, ◌<◌, ◌≤◌, Bool, true, false, cond, ltb, ◌⊎◌, List, [], ◌∷◌, ◌++◌, length, drop, is_some, Some, None, Ok, Err, Option, Result, sym, refl, ap, ◌∙◌, subst, inl, inr, arith}
+use Rattle.std.proofs.Common.{◌≡◌, ℕ, ◌<◌, ◌≤◌, Bool, true, false, cond, List, length, drop, is_some, Some, None, Ok, Err, Option, Result, sym, refl, ◌∙◌, inl, inr, arith}
 use Rattle.std.proofs.lemmas.Bool.{lt-ltb, le-ltb, cond-true, cond-false, true≢false}
 use Rattle.refusals.specs.declared.Refusal.{Refusal}
 use Rattle.refusals.specs.declared.Refusal.TheVariants.{NoSlot}
@@ -8,7 +8,7 @@ use Rattle.slots.specs.declared.map.SlotMap.{SlotMap}
 use Rattle.slots.specs.Entries.{has_slot, lookup, inserted}
 use Rattle.slots.specs.Views.{entries_of, slots_of, room_of}
 use Rattle.store.specs.Held.{Held, holding, dropped, closed, in_room, has_place, kept, keep_told}
-use Rattle.session.specs.Scans.{Put, Unput, Entered, Files}
+use Rattle.session.specs.Scans.{Put, Unput, Files}
 
 -- what a whole value stored tells
 

@@ -1,17 +1,17 @@
 -- A call of a session goes on with every life. Assumes nothing.
-use Rattle.std.proofs.Common.{◌≡◌, ℕ, min, Bool, true, false, cond, List, [], ◌∷◌, ◌++◌, length, Option, sym, refl, ap, ◌∙◌, subst}
+use Rattle.std.proofs.Common.{◌≡◌, ℕ, Bool, true, false, cond, List, [], ◌∷◌, ◌++◌, length, Option, sym, refl, ap, ◌∙◌, subst}
 use Rattle.faults.specs.declared.list.Fault.{Fault}
 use Rattle.faults.specs.Records.{faults_of, records_of}
 use Rattle.slots.specs.declared.map.Slot.{Slot}
 use Rattle.slots.specs.Views.{entries_of, slots_of}
 use Rattle.store.specs.Held.{Held, dropped}
-use Rattle.ledger.specs.Calls.{Call, Reply, Exchange, says}
+use Rattle.ledger.specs.Calls.{Call, Reply, says}
 use Rattle.ledger.specs.Ledger.{Limits, Ledger, made, Step}
 use Rattle.ledger.specs.Life.{Lived}
 use Rattle.ledger.proofs.Lives as ledger
 use Rattle.session.specs.declared.Session.{Session}
 use Rattle.session.specs.Views.{lent, limits_of, ledger_of, Memory, memory_of}
-use Rattle.session.specs.Calls.{Lives, came_to_put, Called, LivesOn, GoesOn, Asks}
+use Rattle.session.specs.Calls.{Lives, came_to_put, Called, GoesOn, Asks}
 
 emptied : (b : Bool) (d d' : List ℕ) → d' ≡ cond b [] d → d ≡ [] → d' ≡ []
 emptied true d d' e f = e

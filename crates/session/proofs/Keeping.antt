@@ -1,5 +1,5 @@
 -- A value is filed where an entry is needed. Assumes nothing.
-use Rattle.std.proofs.Common.{◌≡◌, ℕ, Bool, true, false, not, ◌&&◌, List, is_some, Ok, Option, Result, sym, refl, ap, ◌∙◌, subst}
+use Rattle.std.proofs.Common.{◌≡◌, ℕ, Bool, true, false, not, ◌&&◌, List, is_some, Ok, Option, Result, sym, refl, ap, subst}
 use Rattle.refusals.specs.declared.Refusal.{Refusal}
 use Rattle.slots.specs.declared.map.SlotMap.{SlotMap}
 use Rattle.slots.specs.Entries.{lookup}

@@ -1,5 +1,5 @@
 -- From a look to what a scan replies and leaves. Assumes nothing.
-use Rattle.std.proofs.Common.{◌≡◌, ℕ, ◌+◌, ◌-◌, ◌<◌, ◌≤◌, min, Bool, true, false, cond, not, ◌&&◌, ◌⊎◌, List, [], ◌∷◌, ◌++◌, length, get_or, is_some, Some, None, Ok, Err, Option, Result, sym, refl, ap, ◌∙◌, subst, inl, inr, ⊎_elim, arith}
+use Rattle.std.proofs.Common.{◌≡◌, ℕ, ◌+◌, ◌-◌, ◌<◌, ◌≤◌, Bool, true, false, not, ◌&&◌, List, [], length, get_or, is_some, Some, Ok, Err, Option, Result, sym, refl, ap, ◌∙◌, subst, inl, inr, arith}
 use Rattle.std.proofs.lemmas.Bool.{cond-true, cond-false, true≢false}
 use Rattle.refusals.specs.declared.Refusal.{Refusal}
 use Rattle.refusals.specs.Numbers.{number_of}
@@ -7,10 +7,8 @@ use Rattle.grammar.specs.Utf8.{utf8}
 use Rattle.grammar.specs.Reading as grammar
 use Rattle.grammar.specs.Reading.{Read, Reading}
 use Rattle.grammar.specs.Outcome.{mark_read, faults_read, units_read}
-use Rattle.tokens.specs.declared.Token.{Token}
 use Rattle.tokens.specs.Grammar.{recorded}
 use Rattle.pieces.specs.Pieces.{scan_of}
-use Rattle.pieces.specs.declared.piece.Opening.{Opening}
 use Rattle.look.specs.declared.answer.Scan.{Scan}
 use Rattle.look.specs.declared.answer.Scan.TheVariants.{Str, Template, Resumption}
 use Rattle.look.specs.declared.answer.Look.{Look}
@@ -21,14 +19,14 @@ use Rattle.faults.proofs.Rows.{row_length}
 use Rattle.slots.specs.declared.map.SlotMap.{SlotMap}
 use Rattle.slots.specs.Entries.{lookup}
 use Rattle.slots.specs.Views.{entries_of, room_of}
-use Rattle.store.specs.Held.{Held, weighed, load, dropped, Sound}
-use Rattle.ledger.specs.Calls.{Sort, string, template, resumption, scan, Reply, token, refused}
-use Rattle.ledger.specs.Ledger.{Ledger, sort_of, of_string, in_strings, opens, token_of, has_entry, needs_entry, needed_records, free_records}
+use Rattle.store.specs.Held.{Held, weighed, dropped}
+use Rattle.ledger.specs.Calls.{scan, Reply, token, refused}
+use Rattle.ledger.specs.Ledger.{sort_of, of_string, in_strings, opens, token_of, needs_entry, needed_records, free_records}
 use Rattle.ledger.proofs.Values.{string_cooked}
 use Rattle.session.specs.declared.Session.{Session}
 use Rattle.session.specs.Views.{limits_of, ledger_of}
 use Rattle.session.specs.Calls.{Called, LivesOn}
-use Rattle.session.specs.Scans.{sort_by, Reads, Recorded, Files, Needed, needs, AsNumber, AsOption}
+use Rattle.session.specs.Scans.{sort_by, Reads, Recorded, Needed, needs, AsNumber, AsOption}
 use Rattle.session.proofs.Goes.{goes_on}
 use Rattle.session.proofs.Scanning as scanning
 use Rattle.session.proofs.Scanning.{length_recorded}

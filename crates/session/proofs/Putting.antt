@@ -1,12 +1,12 @@
 -- A literal's units put one after another into the open value. Assumes nothing.
-use Rattle.std.proofs.Common.{◌≡◌, ℕ, ◌+◌, ◌-◌, ◌<◌, ◌≤◌, Bool, true, false, cond, ◌&&◌, leb, List, [], ◌∷◌, ◌++◌, length, Some, Ok, Err, Option, Result, sym, refl, ap, ◌∙◌, subst, ⊎_elim, arith}
+use Rattle.std.proofs.Common.{◌≡◌, ℕ, ◌+◌, ◌<◌, ◌≤◌, Bool, true, false, cond, ◌&&◌, List, [], ◌∷◌, ◌++◌, length, Some, Ok, Err, Result, sym, refl, ap, ◌∙◌, subst, ⊎_elim, arith}
 use Rattle.std.proofs.lemmas.Bool.{leb-false, lt-leb, le-leb, cond-true, cond-false, cases_Bool, true≢false}
 use Rattle.grammar.specs.Utf8.{utf8}
 use Rattle.grammar.specs.Reading.{Read, Reading}
 use Rattle.grammar.specs.Outcome.{units_read}
 use Rattle.grammar.proofs.Readings.{readings_are_one}
 use Rattle.pieces.specs.declared.piece.Opening.{Opening}
-use Rattle.store.specs.Held.{Held, load, weighed, holding, with_unit, dropped, closed, in_room, fits, has_place, Narrow, Sound, kept, keep_told}
+use Rattle.store.specs.Held.{Held, holding, with_unit, dropped, closed, in_room, fits, has_place, Narrow, Sound, kept, keep_told}
 use Rattle.store.proofs.Narrows.{narrow_append}
 use Rattle.look.specs.Units.{Gave, AllGiven}
 use Rattle.look.specs.declared.units.UnitReader.{UnitReader}

@@ -1,5 +1,5 @@
 -- What a scan's code has to show, case by case. Assumes nothing.
-use Rattle.std.proofs.Common.{◌≡◌, ℕ, ◌+◌, ◌-◌, ◌<◌, ◌≤◌, Bool, true, false, cond, not, ◌&&◌, ◌||◌, eqb, ltb, leb, ◌⊎◌, List, [], ◌∷◌, ◌++◌, length, get_or, drop, is_some, Some, None, Ok, Err, Option, Result, sym, refl, ap, ◌∙◌, subst, inl, inr, ⊎_elim, append-nil, arith}
+use Rattle.std.proofs.Common.{◌≡◌, ℕ, ◌+◌, ◌-◌, ◌<◌, ◌≤◌, Bool, true, false, cond, not, ◌&&◌, ◌||◌, eqb, ltb, leb, List, [], ◌∷◌, ◌++◌, length, get_or, drop, is_some, Some, None, Err, Option, sym, refl, ap, ◌∙◌, subst, inl, inr, append-nil, arith}
 use Rattle.std.proofs.lemmas.List.{length-append}
 use Rattle.std.proofs.lemmas.Bool.{lt-ltb, le-ltb, ltb-true, ltb-false, leb-true, leb-false, cond-true, cond-false, true≢false}
 use Rattle.refusals.specs.declared.Refusal.{Refusal}
@@ -13,16 +13,15 @@ use Rattle.tokens.specs.Grammar.{recorded}
 use Rattle.faults.specs.declared.list.FaultList.{FaultList}
 use Rattle.faults.specs.Records as faulty
 use Rattle.slots.specs.declared.map.SlotMap.{SlotMap}
-use Rattle.slots.specs.Entries.{has_slot, lookup}
 use Rattle.slots.specs.Views.{entries_of, slots_of, room_of}
-use Rattle.store.specs.Held.{Held, weighed, load, holding, dropped, closed, in_room, has_place, Sound}
+use Rattle.store.specs.Held.{Held, weighed, holding, dropped, in_room, has_place}
 use Rattle.ledger.specs.Calls.{Sort, scan, Reply, token, refused}
-use Rattle.ledger.specs.Ledger.{Limits, Ledger, sort_of, of_string, in_strings, opens, token_of, has_entry, needs_entry, needs_value, units, next_number, added, exceeded, Decided, Scanned}
+use Rattle.ledger.specs.Ledger.{Limits, Ledger, sort_of, of_string, in_strings, opens, token_of, needs_entry, needs_value, units, next_number, added, exceeded, Decided, Scanned}
 use Rattle.ledger.specs.Ledger.{needed_records, needed_slots, needed_places, needed_weight, free_records, free_slots, free_places, free_capacity}
 use Rattle.session.specs.declared.Session.{Session}
-use Rattle.session.specs.Views.{limits_of, ledger_of, memory_of, unused}
-use Rattle.session.specs.Calls.{came_to_put, refused_weight, Called}
-use Rattle.session.specs.Scans.{Put, Unput, Entered, Recorded, Files}
+use Rattle.session.specs.Views.{limits_of, ledger_of}
+use Rattle.session.specs.Calls.{came_to_put, Called}
+use Rattle.session.specs.Scans.{Put, Entered, Recorded, Files}
 
 pub same_length : (n : ℕ) → ltb n n ≡ false
 same_length n = le-ltb n n (omega arith)

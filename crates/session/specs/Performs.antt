@@ -1,5 +1,5 @@
 -- Calls and answers as values. Assumes nothing.
-use Rattle.std.specs.Prelude.{ℕ, List, [], ◌∷◌}
+use Rattle.std.specs.Prelude.{List, [], ◌∷◌}
 use Rattle.refusals.specs.Numbers.{number_of}
 use Rattle.ledger.specs.Calls as ask
 use Rattle.session.specs.declared.Call.{Call}

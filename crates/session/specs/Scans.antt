@@ -1,11 +1,10 @@
 -- The parts of a scan: what is put into the store, what is entered, and what is recorded. Assumes nothing.
-use Rattle.std.specs.Prelude.{◌≡◌, ℕ, ◌+◌, ◌≤◌, Bool, true, false, not, ◌&&◌, ◌⊎◌, List, [], ◌∷◌, ◌++◌, length, drop, is_some, Some, None, Ok, Err, Option, Result}
+use Rattle.std.specs.Prelude.{◌≡◌, ℕ, Bool, true, false, not, ◌&&◌, ◌⊎◌, List, [], ◌∷◌, ◌++◌, length, drop, is_some, Some, None, Ok, Err, Option, Result}
 use Rattle.refusals.specs.declared.Refusal.{Refusal}
 use Rattle.refusals.specs.Numbers.{number_of, numbered}
 use Rattle.grammar.specs.Utf8.{utf8}
 use Rattle.grammar.specs.Reading.{Read, Reading}
-use Rattle.grammar.specs.Outcome.{units_read, faults_read}
-use Rattle.tokens.specs.Grammar.{recorded}
+use Rattle.grammar.specs.Outcome.{units_read}
 use Rattle.source.specs.declared.text.Text.{Text}
 use Rattle.look.specs.declared.answer.Scan.{Scan}
 use Rattle.look.specs.declared.answer.Scan.TheVariants.{Str, Template, Resumption}

@@ -1,7 +1,7 @@
 -- At most one entry a start: an insert keeps it, and what it says. Assumes nothing.
-use Rattle.std.proofs.Common.{◌≡◌, ℕ, zero, suc, ◌<◌, Bool, true, false, cond, not, ◌&&◌, eqb, List, [], ◌∷◌, ◌++◌, length, is_some, Some, None, Option, sym, refl, ap, ◌∙◌, ⊎_elim, arith}
-use Rattle.std.proofs.lemmas.Bool.{eq-eqb, ne_eqb, eqb-true, eqb-false, cond-true, cond-false, cases_Bool, and_parts, and_from, true≢false}
-use Rattle.slots.specs.Entries.{lookup, joined, has_slot, inserted, distinct, start_at, OneAStart}
+use Rattle.std.proofs.Common.{◌≡◌, ℕ, zero, suc, ◌<◌, Bool, true, false, cond, not, eqb, List, [], ◌∷◌, ◌++◌, length, is_some, Some, None, Option, sym, refl, ap, ◌∙◌, arith}
+use Rattle.std.proofs.lemmas.Bool.{eq-eqb, ne_eqb, eqb-false, cond-true, and_parts, and_from, true≢false}
+use Rattle.slots.specs.Entries.{lookup, has_slot, inserted, distinct, start_at, OneAStart}
 
 none_is : {V : Type 0} (o : Option V) → is_some o ≡ false → o ≡ None
 none_is (Some v) e = absurd (true≢false e)

@@ -3,7 +3,7 @@ use Rattle.std.proofs.Common.{◌≡◌, ℕ, ◌+◌, ◌<◌, ◌≤◌, min, 
 use Rattle.std.proofs.lemmas.List.{take_more, drop_more, map_push, map-append, length-map}
 use Rattle.std.proofs.lemmas.Bool.{eq-eqb, ne_eqb, cond-true, cond-false}
 use Rattle.slots.specs.declared.map.Slot.{Slot}
-use Rattle.slots.specs.Entries.{lookup, joined, has_slot, inserted}
+use Rattle.slots.specs.Entries.{lookup, has_slot, inserted}
 use Rattle.slots.specs.Views.{told, taken, entries, room}
 use Rattle.faults.proofs.Rows.{row_full, row_free, row_more}
 

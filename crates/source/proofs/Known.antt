@@ -1,9 +1,9 @@
 -- What the invariants of texts and cursors give. Assumes nothing.
-use Rattle.std.proofs.Common.{◌≡◌, ℕ, ◌+◌, ◌-◌, ◌<◌, ◌≤◌, true, List, [], ◌++◌, length, get_or, take, drop, Some, IsUtf8, sym, refl, ap, ◌∙◌, subst, arith, length-drop}
+use Rattle.std.proofs.Common.{◌≡◌, ℕ, ◌+◌, ◌≤◌, true, List, [], ◌++◌, length, drop, Some, IsUtf8, sym, ap, ◌∙◌, subst, arith, length-drop}
 use lib.Utf8.{encode, encodes, scalar, scalars}
 use Rattle.std.specs.Char.{len_utf8}
 use Rattle.std.specs.Str.{IsCharBoundary, chars}
-use Rattle.std.proofs.lemmas.Str.{IsUtf8-nil, IsUtf8-drop, scalars-chars, encodes-chars, IsCharBoundary-start, IsCharBoundary-past_char, drop_past_char, cons_from_encodes}
+use Rattle.std.proofs.lemmas.Str.{IsUtf8-nil, IsUtf8-drop, scalars-chars, encodes-chars, IsCharBoundary-past_char, drop_past_char, cons_from_encodes}
 use Rattle.std.proofs.lemmas.Bool.{and_parts}
 use Rattle.source.specs.Texts.{WellFormed, IsText, CharAt, limit}
 

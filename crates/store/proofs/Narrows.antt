@@ -1,9 +1,9 @@
 -- 16-bit units, in parts and in appended lists. Assumes nothing.
-use Rattle.std.proofs.Common.{◌≡◌, ℕ, zero, suc, ◌+◌, ◌-◌, ◌<◌, ◌≤◌, Bool, true, false, ◌&&◌, ltb, List, [], ◌∷◌, ◌++◌, length, get_or, take, drop, set, sym, refl, ap, ◌∙◌, subst, arith}
-use Rattle.std.proofs.lemmas.List.{take_more_set, take-take, length-take}
+use Rattle.std.proofs.Common.{◌≡◌, ℕ, zero, suc, ◌+◌, ◌<◌, ◌≤◌, true, ltb, List, [], ◌∷◌, ◌++◌, length, get_or, take, drop, set, sym, refl, subst, arith}
+use Rattle.std.proofs.lemmas.List.{take_more_set, take-take}
 use Rattle.std.proofs.lemmas.Bool.{ltb-true, lt-ltb, and_parts, and_from}
 use Rattle.store.specs.Held.{Narrow, AllNarrow}
-use Rattle.store.specs.Cuts.{part, cut, final, ordered, narrow}
+use Rattle.store.specs.Cuts.{part, cut, ordered, narrow}
 use Rattle.store.proofs.Parts.{step, final_within, take_drop_swap}
 
 pub narrow_append : (us vs : List ℕ) → Narrow us → Narrow vs → Narrow (us ++ vs)

@@ -1,10 +1,8 @@
 -- Units put one after another into the open value. Assumes nothing.
-use Rattle.std.proofs.Common.{◌≡◌, ℕ, ◌+◌, ◌<◌, ◌≤◌, Bool, true, false, cond, ltb, leb, List, [], ◌∷◌, ◌++◌, length, get_or, take, drop, Ok, Err, Result, sym, refl, ap, ◌∙◌, subst, arith, take-append-drop}
+use Rattle.std.proofs.Common.{◌≡◌, ℕ, ◌+◌, ◌<◌, ◌≤◌, Bool, true, false, cond, List, [], ◌∷◌, ◌++◌, length, get_or, take, drop, Ok, Err, Result, sym, refl, ap, ◌∙◌, subst, arith, take-append-drop}
 use Rattle.std.proofs.lemmas.List.{take_more, take_all, append_assoc, append-nil}
 use Rattle.std.proofs.lemmas.Bool.{leb-false, lt-leb, le-leb, lt-ltb, le-ltb, cond-true, cond-false}
-use Rattle.refusals.specs.declared.Refusal.{Refusal}
-use Rattle.refusals.specs.Numbers.{number_of}
-use Rattle.store.specs.Held.{Held, load, weighed, holding, with_unit, dropped, closed, in_room, fits, has_place, Narrow, Sound, kept, keep_told}
+use Rattle.store.specs.Held.{Held, holding, with_unit, dropped, closed, in_room, fits, has_place, Narrow, Sound, kept, keep_told}
 use Rattle.store.proofs.Narrows.{narrow_append, narrow_take, narrow_drop}
 
 -- what an answer tells of its test

@@ -1,5 +1,5 @@
 -- Cells and a table of ends: one list more, and list n. Assumes nothing.
-use Rattle.std.proofs.Common.{◌≡◌, ℕ, ◌+◌, ◌-◌, ◌<◌, ◌≤◌, true, List, [], ◌∷◌, ◌++◌, length, get_or, take, set, sym, refl, ap, ◌∙◌, subst, arith}
+use Rattle.std.proofs.Common.{◌≡◌, ℕ, ◌+◌, ◌<◌, ◌≤◌, true, List, [], ◌∷◌, ◌++◌, length, get_or, take, set, ap, ◌∙◌, arith}
 use Rattle.std.proofs.lemmas.List.{length-take-le, take_more_set, take-take, get_or-take}
 use Rattle.store.specs.Cuts.{part, cut, final, ordered}
 use Rattle.store.proofs.Parts.{part_none, final_within, final_snoc, ordered_snoc, cut_snoc, cut_length, cut_at, at_within}

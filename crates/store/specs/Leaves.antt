@@ -1,5 +1,5 @@
 -- What a store's calls leave of the memory and the places lent to it. Assumes nothing.
-use Rattle.std.specs.Prelude.{◌≡◌, ℕ, Bool, true, false, List, take, drop}
+use Rattle.std.specs.Prelude.{◌≡◌, ℕ, Bool, false, List, take, drop}
 
 -- cells and places, lent and as they are now; the finished values end at a cell
 pub record PutLeaves (stored : Bool) (finished : ℕ) (cells cells' places places' : List ℕ) : Type 0 where

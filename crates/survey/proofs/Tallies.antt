@@ -1,5 +1,5 @@
 -- The stops that are counted from a place on. Assumes nothing.
-use Rattle.std.proofs.Common.{◌≡◌, ℕ, zero, suc, ◌+◌, ◌-◌, ◌<◌, ◌≤◌, Bool, true, false, cond, List, [], ◌∷◌, length, get_or, drop, sym, refl, ap, ◌∙◌, subst, zero-add, arith, drop-cons}
+use Rattle.std.proofs.Common.{◌≡◌, ℕ, zero, suc, ◌+◌, ◌-◌, ◌<◌, ◌≤◌, Bool, true, cond, List, length, get_or, drop, sym, ap, ◌∙◌, zero-add, arith, drop-cons}
 use lib.Seq.{drop-length}
 use Rattle.stops.specs.First.{Free, StopAt}
 use Rattle.survey.specs.Tally.{tally}

@@ -1,12 +1,12 @@
 -- What the acts of a store of units do to what it holds. Assumes nothing.
-use Rattle.std.specs.Prelude.{◌≡◌, ℕ, ◌+◌, ◌-◌, ◌<◌, ◌≤◌, min, true, false, List, [], ◌∷◌, ◌++◌, length, get_or, take, slice_index, slice_index_or, slice_set, refl}
-use Rattle.std.proofs.Common.{sym, ap, subst, ◌∙◌, arith}
-use Rattle.std.proofs.lemmas.List.{length-set, length-append, take-set-le, drop-set-lt, take-take}
+use Rattle.std.specs.Prelude.{◌≡◌, ℕ, ◌+◌, ◌-◌, ◌<◌, ◌≤◌, min, true, false, List, [], ◌∷◌, length, get_or, take, slice_index, slice_index_or, slice_set, refl}
+use Rattle.std.proofs.Common.{sym, ap, ◌∙◌, arith}
+use Rattle.std.proofs.lemmas.List.{length-set, length-append, take-set-le, drop-set-lt}
 use Rattle.std.proofs.lemmas.Bool.{le-leb, lt-ltb, le-ltb, lt-leb, true≢false}
 use Rattle.store.specs.Held.{load, Sound, fits, with_unit, dropped, closed, has_place}
-use Rattle.store.specs.Cuts.{part, cut, final, ordered, narrow}
+use Rattle.store.specs.Cuts.{part, final, ordered, narrow}
 use Rattle.store.specs.Leaves.{PutLeaves, CloseLeaves}
-use Rattle.store.proofs.Parts.{part_length, part_none, part_push, cut_set, weighed_is, final_within, ordered_up, ordered_final}
+use Rattle.store.proofs.Parts.{part_length, part_none, part_push, cut_set, weighed_is, ordered_up, ordered_final}
 use Rattle.store.proofs.Narrows.{narrow_is, narrow_part, narrow_cut, narrow_put, narrow_less}
 use Rattle.store.proofs.Tables.{start_in, number_of, cut_more, none_open, rising_more, list_at, list_in}
 use Rattle.units.specs.declared.Units.{Units}

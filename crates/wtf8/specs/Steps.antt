@@ -5,7 +5,7 @@ use Rattle.std.proofs.Math.Utf8.{encode}
 use Rattle.std.proofs.lemmas.List.{length-set, length-map, length-append, length-take, map_push, take-take, take_at, take-set-le, drop-set-lt, get_or-map}
 use Rattle.std.proofs.lemmas.Bool.{le-leb, lt-ltb, le-ltb, lt-leb, and_parts, true≢false}
 use Rattle.store.specs.Held.{load, weighed, Narrow, AllNarrow, Sound, fits, with_unit, dropped, closed, has_place}
-use Rattle.store.specs.Cuts.{part, cut, final, ordered, laid}
+use Rattle.store.specs.Cuts.{part, final, ordered, laid}
 use Rattle.store.specs.Leaves.{PutLeaves, CloseLeaves}
 use Rattle.store.proofs.Parts.{part_length, part_none, part_take, ordered_up, ordered_final, cut_set, part_set, weighed_is, length_laid, take_laid, drop_laid, part_laid, cut_laid}
 use Rattle.store.proofs.Narrows.{narrow_append}
@@ -14,7 +14,7 @@ use Rattle.coding.specs.Codes.{high, low, join, wtf8, weight, units, trail, reco
 use Rattle.coding.proofs.Trips.{narrow_units, narrow_front, units_wtf8, front, wtf8_more, wtf8_high, wtf8_join, three_bytes}
 use Rattle.wtf8.specs.declared.Wtf8.{Wtf8}
 use Rattle.wtf8.specs.Meaning.{closed_bytes, open_bytes, held_of}
-use Rattle.wtf8.specs.Views.{cells, ends, finished, stored, opened, all_bytes, meaning, IsPlace}
+use Rattle.wtf8.specs.Views.{cells, ends, finished, stored, opened, meaning, IsPlace}
 
 weighed_units : (ps : List (List ℕ)) → weighed weight (map units ps) ≡ weighed length (map recode ps)
 weighed_units [] = refl

@@ -1,10 +1,9 @@
-use Rattle.std.proofs.Common.{◌≡◌, true, sym, refl, subst}
+use Rattle.std.proofs.Common.{◌≡◌, true, refl, subst}
 use lib.Utf8.{encode, scalars}
 use Rattle.std.proofs.lemmas.Str.{encodes_same}
 use Rattle.coding.specs.Codes.{points}
-use Rattle.grammar.specs.Bench.{bench}
 use Rattle.grammar.proofs.Bench.{bench_stands}
-use Rattle.coding.specs.Bench.{Worked, stored, in_bytes, BenchInBytes}
+use Rattle.coding.specs.Bench.{Worked, BenchInBytes}
 use Rattle.coding.proofs.Trips.{units_wtf8}
 use Rattle.coding.proofs.coding_stands.Goals as goal
 

@@ -1,4 +1,4 @@
-use Rattle.std.proofs.Common.{◌≡◌, inl, Ok, refl, sym, ◌∙◌, subst}
+use Rattle.std.proofs.Common.{inl, Ok, refl, sym, ◌∙◌, subst}
 use Rattle.look.specs.Looked.{Answered}
 use Rattle.nethrawf.proofs.nethrawf_look.Goals as goal
 

@@ -1,5 +1,4 @@
-use Rattle.std.proofs.Common.{◌≡◌, ◌+◌, ◌*◌, ◌/◌, ◌%◌, [], ◌∷◌, get_or, sym, ap, ◌∙◌}
-use Rattle.coding.specs.Codes.{two, three, four}
+use Rattle.std.proofs.Common.{◌+◌, ◌*◌, ◌/◌, ◌%◌, [], ◌∷◌, sym, ap, ◌∙◌}
 use Rattle.coding.proofs.Steps.{begins_2, begins_3, begins_4}
 use Rattle.coding.proofs.codes.begun_at.Goals as goal
 

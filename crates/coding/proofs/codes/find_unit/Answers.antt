@@ -1,6 +1,5 @@
-use Rattle.std.proofs.Common.{◌≡◌, suc, ◌-◌, sym, ap, ◌∙◌, arith}
+use Rattle.std.proofs.Common.{sym, ap, ◌∙◌, arith}
 use Rattle.std.specs.List.{slice_get}
-use Rattle.coding.specs.Codes.{units}
 use Rattle.coding.proofs.Steps.{units_at, units_end, first_here, second_here, one_on, two_on}
 use Rattle.coding.proofs.codes.find_unit.Goals as goal
 use Rattle.coding.proofs.codes.find_unit.Goals.{in-Nothing, in-One+else-left-eq0, in-Two+else-left-eq0-2+else-left-eq1}

@@ -1,4 +1,4 @@
-use Rattle.std.proofs.Common.{◌≡◌, ◌+◌, ◌*◌, ap, ◌∙◌, arith}
+use Rattle.std.proofs.Common.{◌+◌, ◌*◌, ◌∙◌, arith}
 use Rattle.coding.proofs.Halves.{half_there, no_half}
 use Rattle.coding.proofs.codes.last_half.Goals as goal
 use Rattle.coding.proofs.codes.last_half.Goals.{else-a-via-then-a+then-b-ge160+then-b-lt176+then-c-ge128+else-c-lt192, else-a-via-then-a+then-b-ge160+then-b-lt176+else-c-ge128, else-a-via-then-a+then-b-ge160+else-b-lt176, else-a-via-then-a+else-b-ge160, else-a-via-else-a}

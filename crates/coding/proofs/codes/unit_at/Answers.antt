@@ -1,4 +1,3 @@
-use Rattle.std.proofs.Common.{◌∙◌}
 use Rattle.coding.proofs.Steps.{some_told, none_told}
 use Rattle.coding.proofs.codes.unit_at.Goals as goal
 

@@ -1,4 +1,4 @@
-use Rattle.std.proofs.Common.{◌+◌, ◌*◌, ◌<◌, ◌≤◌, refl, arith}
+use Rattle.std.proofs.Common.{refl, arith}
 use Rattle.escapes.proofs.Numerals.{digits_first, digits_next, digits_lift, digits_fit}
 use Rattle.escapes.proofs.digits.code_point.Goals as goal
 

@@ -1,5 +1,4 @@
-use Rattle.std.proofs.Common.{◌≡◌, ◌+◌, ◌*◌, ◌<◌, length, refl, arith, rules}
-use Rattle.escapes.specs.Digits.{Digit, Digits}
+use Rattle.std.proofs.Common.{◌+◌, arith}
 use Rattle.escapes.proofs.Numerals.{digits_none, digits_more, digits_small, digits_done}
 use Rattle.escapes.proofs.digits.hex_digits.Goals as goal
 

@@ -1,4 +1,4 @@
-use Rattle.std.proofs.Common.{ℕ, ◌-◌, ◌<◌, ◌≤◌, length}
+use Rattle.std.proofs.Common.{ℕ, ◌-◌, length}
 use Rattle.escapes.specs.Digits.{Digits}
 use Rattle.escapes.proofs.digits.skip_hex.Given as goal
 

@@ -1,4 +1,4 @@
-use Rattle.std.proofs.Common.{◌≡◌, ◌<◌, length, get_or, sym, ap, ◌∙◌, arith}
+use Rattle.std.proofs.Common.{◌<◌, length, get_or, sym, ap, ◌∙◌, arith}
 use Rattle.look.specs.Looked.{opens}
 use Rattle.look.proofs.Looking.{accepts}
 use Rattle.look.proofs.look.look.Goals as goal

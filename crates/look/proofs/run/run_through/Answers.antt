@@ -1,4 +1,4 @@
-use Rattle.std.proofs.Common.{◌<◌, length, sym, refl, ap, arith}
+use Rattle.std.proofs.Common.{length, sym, refl, ap, arith}
 use Rattle.pieces.specs.Pieces.{body_of}
 use Rattle.look.proofs.Running.{upto_none, piece_moves, reached_on, ran}
 use Rattle.look.proofs.run.run_through.Goals as goal

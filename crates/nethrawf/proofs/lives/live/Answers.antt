@@ -1,5 +1,4 @@
-use Rattle.std.proofs.Common.{◌≡◌, ℕ, length, rules, min}
-use Rattle.ledger.specs.Ledger.{Limits}
+use Rattle.std.proofs.Common.{◌≡◌, length, rules}
 use Rattle.session.specs.Scans.{bytes_of}
 use Rattle.session.specs.Views.{lent}
 use Rattle.nethrawf.specs.Exports.{limits}

@@ -1,4 +1,4 @@
-use Rattle.std.proofs.Common.{◌≡◌, [], length, is_ok, vec_items, sym, ap, arith}
+use Rattle.std.proofs.Common.{◌≡◌, [], length, is_ok, vec_items, ap, arith}
 use Rattle.ledger.specs.Calls.{counted}
 use Rattle.faults.specs.Records.{faults_of}
 use Rattle.reports.proofs.Asking.{fault_is_told, gathered_none, gathered_more, headed}

@@ -1,4 +1,4 @@
-use Rattle.std.proofs.Common.{[], is_ok, ap, ◌∙◌, arith}
+use Rattle.std.proofs.Common.{[], is_ok, ap, arith}
 use Rattle.reports.proofs.Asking.{unit_is_told, gathered_none, gathered_more}
 use Rattle.reports.proofs.ask.ask_units.Goals as goal
 

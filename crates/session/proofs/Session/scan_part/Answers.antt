@@ -1,4 +1,4 @@
-use Rattle.std.proofs.Common.{◌≤◌, sym, refl, ◌∙◌, arith}
+use Rattle.std.proofs.Common.{◌≤◌, arith}
 use Rattle.store.specs.Held.{weighed}
 use Rattle.session.specs.Scans.{bytes_of}
 use Rattle.session.proofs.Looking.{unseen, too_many, template_done, template_undone}

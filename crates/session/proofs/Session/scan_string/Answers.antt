@@ -1,4 +1,4 @@
-use Rattle.std.proofs.Common.{◌≤◌, sym, refl, ◌∙◌, arith}
+use Rattle.std.proofs.Common.{◌≤◌, refl, arith}
 use Rattle.look.specs.declared.answer.Scan.TheVariants.{Str}
 use Rattle.store.specs.Held.{weighed}
 use Rattle.session.specs.Scans.{bytes_of}

@@ -1,7 +1,6 @@
-use Rattle.std.proofs.Common.{arith}
 use Rattle.store.proofs.Puts.{placed}
 use Rattle.session.specs.Scans.{bytes_of}
-use Rattle.session.proofs.Putting.{begun, rebased, no_more, one_more, finished}
+use Rattle.session.proofs.Putting.{rebased, one_more, finished}
 use Rattle.session.proofs.scans.put_units.Goals as goal
 
 pub units-smaller-in-Unit : goal.units-smaller-in-Unit

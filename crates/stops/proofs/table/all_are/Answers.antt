@@ -1,4 +1,4 @@
-use Rattle.std.proofs.Common.{sym, arith, rules}
+use Rattle.std.proofs.Common.{sym, rules}
 use Rattle.stops.specs.Entries.{all_wanted, not_wanted}
 use Rattle.stops.proofs.table.all_are.Goals as goal
 

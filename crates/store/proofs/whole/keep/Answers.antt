@@ -1,5 +1,5 @@
-use Rattle.std.proofs.Common.{◌≡◌, true, take, refl, ap, ◌∙◌, arith}
-use Rattle.store.specs.Held.{holding, has_place}
+use Rattle.std.proofs.Common.{take, refl, ap, ◌∙◌, arith}
+use Rattle.store.specs.Held.{holding}
 use Rattle.store.proofs.Narrows.{narrow_all}
 use Rattle.store.proofs.Puts.{went, stopped, one_put, all_closed, all_told, none_kept, none_told, no_place_kept, placed, unplaced}
 use Rattle.store.proofs.whole.keep.Goals as goal

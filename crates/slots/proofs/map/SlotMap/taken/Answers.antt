@@ -1,4 +1,4 @@
-use Rattle.std.proofs.Common.{◌-◌, ◌∙◌, arith}
+use Rattle.std.proofs.Common.{arith}
 use Rattle.faults.proofs.Rows.{row_is}
 use Rattle.slots.proofs.map.SlotMap.taken.Goals as goal
 
