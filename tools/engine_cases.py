@@ -23,10 +23,9 @@ with open(os.path.join(ROOT, "tools", "node_literals.txt")) as f:
     lines = f.read().splitlines()[::every]
 with open(os.path.join(ROOT, "crates", "grammar_cases", "specs", "Cases.antt"), "w") as f:
     f.write("""-- Literals and the answers of a JavaScript engine, written by tools/engine_cases.py. Assumes nothing.
-use mathlib.Core.List.{List, [], _∷_}
-use Prim.Native.Nat.{ℕ}
-use Rattle·std.specs.shelf.Lists.{All}
-use Rattle·grammar_cases·specs.Engine.{Verdict, accepted, uncooked, refused, Case, Agrees}
+use Rattle.std.specs.Prelude.{ℕ, List, [], ◌∷◌}
+use Rattle.std.specs.List.{AllByRecursion}
+use Rattle.grammar_cases.specs.Engine.{Verdict, accepted, uncooked, refused, Case, Agrees}
 
 abbrev case : List ℕ → Verdict → Case
 case bs v = record { bytes = bs; verdict = v }
@@ -35,6 +34,6 @@ abbrev pub cases : List Case
 cases =
 """ + "    ∷ ".join(case(line).lstrip() if i else case(line) for i, line in enumerate(lines)) + """    ∷ []
 
-abbrev pub Engine-agrees : Type 0
-Engine-agrees = All Agrees cases
+abbrev pub EngineAgrees : Type 0
+EngineAgrees = AllByRecursion Agrees cases
 """)

@@ -14,40 +14,40 @@ RT = os.environ.get("RT", "rt")
 
 # which theorem rests on which lemma
 THEOREMS = {
-    "characters-clear": "derivations_are_one",
-    "closing-ends": "derivations_are_one",
-    "steps-clear": "readings_are_one",
-    "endings-clear": "readings_are_one",
-    "endings-end": "readings_are_one",
+    "characters_clear": "derivations_are_one",
+    "closing_ends": "derivations_are_one",
+    "steps_clear": "readings_are_one",
+    "endings_clear": "readings_are_one",
+    "endings_end": "readings_are_one",
     "agreed": "bench_stands",
-    "seven-in-a-template": "seven_digits",
-    "seven-in-a-string": "seven_digits",
+    "seven_in_a_template": "seven_digits",
+    "seven_in_a_string": "seven_digits",
 }
 
 # the lookahead of a CR in a LineContinuation of a string, of a template, and of a raw line terminator of a template: they share one rule, so each gets a rule of its own here
 LOOSE = """abbrev pub loose : LineTerminatorSequence → Rule
-loose lf = lineTerminatorSequence lf
+loose lf = line_terminator_sequence lf
 loose cr = this 0x0D ▸ done
-loose ls = lineTerminatorSequence ls
-loose ps = lineTerminatorSequence ps
-loose crlf = lineTerminatorSequence crlf
+loose ls = line_terminator_sequence ls
+loose ps = line_terminator_sequence ps
+loose crlf = line_terminator_sequence crlf
 
 """
 SHARED = [
-    ("a CR continues the line of a string, whatever stands behind", "stringCharacter quote (lineContinuation l) = continuation l", 'stringCharacter quote (lineContinuation l) = oneOf "\\\\" ▸ loose l'),
-    ("a CR continues the line of a template, whatever stands behind", "templateCharacter (lineContinuation l) = continuation l", 'templateCharacter (lineContinuation l) = oneOf "\\\\" ▸ loose l'),
-    ("a raw CR of a template, whatever stands behind", "templateCharacter (lineTerminator l) = lineTerminatorSequence l", "templateCharacter (lineTerminator l) = loose l"),
+    ("a CR continues the line of a string, whatever stands behind", "string_character quote (line_continuation l) = continuation l", 'string_character quote (line_continuation l) = one_of "\\\\" ▸ loose l'),
+    ("a CR continues the line of a template, whatever stands behind", "template_character (line_continuation l) = continuation l", 'template_character (line_continuation l) = one_of "\\\\" ▸ loose l'),
+    ("a raw CR of a template, whatever stands behind", "template_character (line_terminator l) = line_terminator_sequence l", "template_character (line_terminator l) = loose l"),
 ]
 
 
 def weaker(clause):
     """The clause without its lookahead, or without one part of it."""
-    both = re.search(r"lookaheadNot \((\S+) \+\+ (chars \"[^\"]*\")\)", clause)
+    both = re.search(r"lookahead_not \((\S+) \+\+ (chars \"[^\"]*\")\)", clause)
     if both:
-        yield clause.replace(both.group(0), f"lookaheadNot ({both.group(2)})")
-        yield clause.replace(both.group(0), f"lookaheadNot {both.group(1)}")
+        yield clause.replace(both.group(0), f"lookahead_not ({both.group(2)})")
+        yield clause.replace(both.group(0), f"lookahead_not {both.group(1)}")
         return
-    one = re.search(r"lookahead(?:Not)? (?:\(.*?\)\)|\(.*?\)|\w+)", clause)
+    one = re.search(r"lookahead(?:_not)? (?:\(.*?\)\)|\(.*?\)|\w+)", clause)
     if one:
         yield clause.replace(one.group(0), "done")
 
@@ -67,10 +67,10 @@ def edits(name):
 
 def refused(name, text):
     with tempfile.TemporaryDirectory() as folder:
-        shutil.copytree(CRATE, os.path.join(folder, "crates", "grammar"))
+        shutil.copytree(CRATE, os.path.join(folder, "crates", "grammar"), ignore=shutil.ignore_patterns("out"))
         open(os.path.join(folder, "crates.txt"), "w").write("grammar:\n")
         open(os.path.join(folder, "crates", "grammar", "specs", name), "w", encoding="utf-8").write(text)
-        run = subprocess.run([RT, "check", "grammar"], cwd=folder, capture_output=True, text=True)
+        run = subprocess.run([RT, "check"], cwd=os.path.join(folder, "crates", "grammar"), capture_output=True, text=True)
         if run.returncode == 0:
             return None
         lemmas = re.findall(r"/(\w+\.antt):\d+:\d+: error: `([^`]+)`", run.stdout + run.stderr)

@@ -22,7 +22,7 @@ pub fn misuse(bytes: &[u8], place: &mut Place) -> usize {
     $1
 }
 TEXT
-    if (cd "$work" && rt dev source) > "$work/log" 2>&1; then
+    if (cd "$work/crates/source" && rt check) > "$work/log" 2>&1; then
         echo accepted
     else
         grep -oE 'error\[[A-Za-z0-9-]+\]' "$work/log" | head -n 1

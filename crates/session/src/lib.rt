@@ -65,7 +65,7 @@ impl<'a> Session<'a> {
         records: &'a mut [Fault],
     ) -> Session<'a>
         ensures store { S.ValueStore.held store.new ≡ dropped (S.ValueStore.held store.old) }
-        ensures memory { memory_of result ≡ record { strings = strings.entry.now; templates = templates.old; records = records.old } }
+        ensures memory { memory_of result ≡ record { strings = strings.old; templates = templates.old; records = records.old } }
         ensures lives { (text : List ℕ) → Lives S.ValueStore.weight (lent (length strings.old) (length templates.old) (length records.old) (S.ValueStore.held store.old)) text (S.ValueStore.held store.old).values [] result (S.ValueStore.held store.new) }
     {
         store.drop_open();

@@ -22,7 +22,7 @@ pub fn serve<'a, S: ValueStore>(
     answers: &mut [Answer],
 ) -> Session<'a>
     ensures lives { Lives S.ValueStore.weight (lent (length strings.old) (length templates.old) (length records.old) (S.ValueStore.held store.old)) (bytes_of text.entry) (S.ValueStore.held store.old).values (transcript calls.now answers.new) result (S.ValueStore.held store.new) }
-    ensures unused { unused (memory_of result) ≡ unused (record { strings = strings.entry.now; templates = templates.old; records = records.old }) }
+    ensures unused { unused (memory_of result) ≡ unused (record { strings = strings.old; templates = templates.old; records = records.old }) }
     ensures past { drop (length calls.now) answers.new ≡ drop (length calls.now) answers.old }
 {
     let mut session = Session::new(store, strings, templates, records);
