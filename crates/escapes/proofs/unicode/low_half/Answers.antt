@@ -13,4 +13,4 @@ returns-else-low-gt57343 c =
     let s = c.begin-trial.ensures.start in
     let k = c.if-not-take_unicode_prefix.ensures.cases in
     let d = c.in-All.ensures in
-    low_by c.args.bytes.now _ c.args.place.now.at _ _ c.in-All.low c.in-All.to _ (ap (λ z. z.at) s.1) s.2 c.requires k.0 (c.at.ensures ∙ k.1) d.0 d.1 (search rules) c.if-low-lt56320.false c.if-low-gt57343.false
+    low_by c.args.bytes.now _ c.args.place.now.at _ _ c.in-All.low c.in-All.to _ (ap (λ z. z.at) s.1) s.2 c.requires k.0 (c.at.ensures ∙ k.1) d.0 d.1 (search rules) (omega arith) (omega arith)
