@@ -1,4 +1,4 @@
-ghost use Rattle.std.specs.Prelude.{◌≡◌, false, ltb, [], ◌∷◌, ◌++◌, length, drop, if◌then◌else◌, Ok, Err, nat_lt};
+ghost use Rattle.std.specs.Prelude.{◌≡◌, false, [], ◌∷◌, ◌++◌, length, drop, if◌then◌else◌, Ok, Err, nat_lt};
 ghost use Rattle.refusals.specs.Numbers.{numbered};
 ghost use Rattle.faults.specs.Records.{kind_of, records_of, faults_of, room_of, fault_told};
 
@@ -75,8 +75,8 @@ impl<'a> FaultList<'a> {
 
     // One fault more.
     pub fn append(&mut self, fault: Fault) -> Result<(), Refusal>
-        ensures answer { numbered result ≡ (if ltb (length (faults_of self.old)) (room_of self.old) then Ok tt else Err 9) }
-        ensures after { faults_of self.new ≡ (if ltb (length (faults_of self.old)) (room_of self.old) then faults_of self.old ++ (fault ∷ []) else faults_of self.old) }
+        ensures answer { numbered result ≡ (if nat_lt (length (faults_of self.old)) (room_of self.old) then Ok tt else Err 9) }
+        ensures after { faults_of self.new ≡ (if nat_lt (length (faults_of self.old)) (room_of self.old) then faults_of self.old ++ (fault ∷ []) else faults_of self.old) }
         ensures refused { nat_lt (length (faults_of self.old)) (room_of self.old) ≡ false → records_of self.new ≡ records_of self.old }
         ensures past { drop 4096 (records_of self.new) ≡ drop 4096 (records_of self.old) }
         ensures room { room_of self.new ≡ room_of self.old }

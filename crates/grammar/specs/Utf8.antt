@@ -1,4 +1,4 @@
--- UTF-8 bytes as a text: places are byte offsets. It has meaning for well-formed bytes (std's `Utf8`). Assumes nothing.
+-- UTF-8 bytes as a text: places are byte offsets. It has meaning for well-formed bytes (std's `IsUtf8`). Assumes nothing.
 -- At the end, past it, and inside a character (at a byte 80 to BF) no character stands, so nothing is derived from there.
 use Rattle.std.specs.Prelude.{◌≡◌, ℕ, ◌+◌, ◌<◌, ◌≤◌, Bool, true, cond, not, ◌&&◌, List, [], ◌∷◌, ◌++◌, length, drop, IsUtf8, nat_le, slice_index}
 use Rattle.std.proofs.Math.Utf8.{encode, scalar}

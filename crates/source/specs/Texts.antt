@@ -4,7 +4,7 @@ use Rattle.std.proofs.Math.Utf8.{encode, encodes, scalar, scalars}
 use Rattle.std.specs.Char.{len_utf8}
 use Rattle.std.specs.Str.{chars}
 
--- the bytes are those of the Unicode scalar values that they spell: `Utf8` said as two equations, so that it has one proof at most
+-- the bytes are those of the Unicode scalar values that they spell: `IsUtf8` said as two equations, so that it has one proof at most
 abbrev pub WellFormed : List ℕ → Type 0
 WellFormed bytes = (scalars (chars bytes) ≡ true) × (encodes (chars bytes) ≡ bytes)
 
