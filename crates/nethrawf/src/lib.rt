@@ -88,3 +88,120 @@ pub extern "C" fn nethrawf_serve_wtf8(
     let mut store = Wtf8::new(cells, ends);
     serve(heap, bytes, *room, &mut store, requests, responses)
 }
+
+#[cfg(test)]
+mod tests {
+    use super::*;
+
+    const SCRIPT: &[u8] = b"\"a\\x41\" `b`";
+
+    const ROOM: Room = Room {
+        strings: 1,
+        templates: 1,
+        records: 1,
+    };
+
+    const BLANK: Response = Response {
+        refusal: 99,
+        kind: 99,
+        mark: 99,
+        first: 99,
+        second: 99,
+    };
+
+    fn request(what: u32, start: usize, index: usize) -> Request {
+        Request { what, start, index }
+    }
+
+    // The string and its value, a unit of it, the template, and two requests that are turned down.
+    fn requests() -> [Request; 6] {
+        [
+            request(0, 0, 0),
+            request(3, 0, 0),
+            request(4, 0, 1),
+            request(1, 8, 0),
+            request(0, 8, 0),
+            request(9, 0, 0),
+        ]
+    }
+
+    // By ECMA-262 the string has the units 0061 0041, and no escape is in the template.
+    fn answered_as_wanted(responses: &[Response; 6]) -> bool {
+        let wanted = [
+            (0, 1, 1, 0, 7),
+            (0, 0, 1, 2, 0),
+            (0, 0, 0, 0x41, 0),
+            (0, 2, 0, 8, 11),
+            (4, 0, 0, 0, 0),
+            (7, 0, 0, 0, 0),
+        ];
+        for i in 0..6 {
+            let r = responses[i];
+            if (r.refusal, r.kind, r.mark, r.first, r.second) != wanted[i] {
+                return false;
+            }
+        }
+        true
+    }
+
+    #[test]
+    fn a_life_over_units(rt: HostRuntime) {
+        let mut responses = [BLANK; 6];
+        let mut cells = [0u16; 8];
+        let mut ends = [0usize; 2];
+        let asked = requests();
+        let done = nethrawf_serve_units(
+            rt.alloc(),
+            SCRIPT,
+            &ROOM,
+            &mut cells,
+            &mut ends,
+            &asked,
+            &mut responses,
+        );
+        assert_eq!(rt; done, 0);
+        assert!(rt; answered_as_wanted(&responses));
+    }
+
+    #[test]
+    fn a_life_over_wtf8(rt: HostRuntime) {
+        let mut responses = [BLANK; 6];
+        let mut cells = [0u8; 8];
+        let mut ends = [0usize; 2];
+        let asked = requests();
+        let done = nethrawf_serve_wtf8(
+            rt.alloc(),
+            SCRIPT,
+            &ROOM,
+            &mut cells,
+            &mut ends,
+            &asked,
+            &mut responses,
+        );
+        assert_eq!(rt; done, 0);
+        assert!(rt; answered_as_wanted(&responses));
+    }
+
+    #[test]
+    fn a_look_and_a_check(rt: HostRuntime) {
+        let mut prefix = 99;
+        assert_eq!(rt; nethrawf_check(SCRIPT, &mut prefix), 0);
+        assert_eq!(rt; nethrawf_check(b"ab\xFF", &mut prefix), 2);
+        assert_eq!(rt; prefix, 2);
+        let mut seen = Seen {
+            kind: 99,
+            mark: 99,
+            cooked: 99,
+            start: 99,
+            end: 99,
+            faults: 99,
+            units: 99,
+        };
+        assert_eq!(rt; nethrawf_look(SCRIPT, 0, 0, &mut seen), 0);
+        assert_eq!(rt;
+            (seen.kind, seen.mark, seen.cooked, seen.units),
+            (1, 1, 1, 2)
+        );
+        assert_eq!(rt; (seen.start, seen.end, seen.faults), (0, 7, 0));
+    }
+}
