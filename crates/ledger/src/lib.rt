@@ -5,28 +5,22 @@ ghost use Rattle.ledger.specs.Laws.{RunsKeep, Begins, GoesOn, CallsDecide};
 ghost use Rattle.ledger.specs.Worked.{ALongLife, WithoutSlots, WithoutPlaces, WithoutCapacity, BrokenOff};
 
 // Every run of the ledger keeps the law: what was just made keeps it, and so does every step more.
-pub fn runs_keep_the_law() -> u8
+pub fn runs_keep_the_law()
     ensures runs { RunsKeep }
     ensures begins { Begins }
     ensures goes_on { GoesOn }
-{
-    0
-}
+{}
 
 // Two lives that begin alike and have the same calls have the same replies and leave the same.
-pub fn calls_decide() -> u8
+pub fn calls_decide()
     ensures { CallsDecide }
-{
-    0
-}
+{}
 
 // The law speaks of something: lives in which literals are stored and told, and in which they are turned down.
-pub fn worked_lives() -> u8
+pub fn worked_lives()
     ensures long { ALongLife }
     ensures slots { WithoutSlots }
     ensures places { WithoutPlaces }
     ensures capacity { WithoutCapacity }
     ensures broken { BrokenOff }
-{
-    0
-}
+{}
