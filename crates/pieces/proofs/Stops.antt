@@ -1,5 +1,5 @@
 -- What stops a run of plain characters. Assumes nothing.
-use Rattle.std.proofs.Common.{◌≡◌, ℕ, ◌+◌, ◌<◌, ◌≤◌, Bool, true, false, ◌||◌, T, eqb, ◌⊎◌, List, [], ◌∷◌, length, get_or, drop, Some, None, IsUtf8, sym, refl, ap, ◌∙◌, subst, inl, inr, ⊎_elim, arith}
+use Rattle.std.proofs.Common.{◌≡◌, ℕ, ◌+◌, ◌<◌, ◌≤◌, Bool, true, false, ◌||◌, T, eqb, ◌⊎◌, List, [], ◌∷◌, length, get_or, drop, Some, None, Result, IsUtf8, sym, refl, ap, ◌∙◌, subst, inl, inr, ⊎_elim, arith}
 use Rattle.std.specs.Str.{IsCharBoundary}
 use Rattle.std.proofs.lemmas.Bool.{eqb-true, ne_eqb}
 use Rattle.std.proofs.lemmas.Str.{IsCharBoundary-end}
@@ -18,7 +18,8 @@ use Rattle.source.specs.Texts.{WellFormed}
 use Rattle.source.proofs.Known.{utf8_from}
 use Rattle.escapes.specs.Places.{At, Here}
 use Rattle.escapes.specs.Escapes.{is_template, units_told, faults_told, reached, EscapeRead}
-use Rattle.escapes.specs.declared.unicode.Escape.{Escape}
+use Rattle.escapes.specs.declared.unicode.Given.{Given}
+use Rattle.escapes.specs.declared.unicode.Invalid.{Invalid}
 use Rattle.escapes.proofs.Looks.{here, over_at, two_here, second_ahead}
 use Rattle.escapes.proofs.Nodes.{stop}
 use Rattle.escapes.proofs.Parts.{one_step}
@@ -128,7 +129,7 @@ module _ (bs : List ℕ) (p : ℕ) where
 
 -- the escape behind a backslash, as the cursor that was moved there read it
 pub escaped :
-    (bs bs' : List ℕ) (p q : ℕ) (m : Bool) (b : Body) (e : Escape) → bs' ≡ bs → q ≡ p + 1 → m ≡ is_template b → Here bs p 92 → EscapeRead m bs' q (Some e)
+    (bs bs' : List ℕ) (p q : ℕ) (m : Bool) (b : Body) (e : Result Given Invalid) → bs' ≡ bs → q ≡ p + 1 → m ≡ is_template b → Here bs p 92 → EscapeRead m bs' q (Some e)
     → GoesOn b bs p (units_told (is_template b) e) (faults_told (is_template b) p e) true (reached e) × (p + 1 < reached e)
 escaped bs bs' p q m b e f g i h x =
     let y = subst (λ (z : Bool). EscapeRead z bs (p + 1) (Some e)) i (subst (λ (z : ℕ). EscapeRead m bs z (Some e)) g (subst (λ (z : List ℕ). EscapeRead m z q (Some e)) f x)) in

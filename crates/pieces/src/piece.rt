@@ -7,14 +7,14 @@ ghost use Rattle.escapes.specs.Places.{Here};
 ghost use Rattle.escapes.specs.Escapes.{is_template};
 ghost use Rattle.pieces.specs.Pieces.{body_of, stops_in, StopRead, PieceRead};
 
-use escapes::unicode::{Escape, read_escape};
+use escapes::unicode::{Given, Invalid, read_escape};
 use source::cursor::Cursor;
 use source::fronts::behind_crlf;
 use stops::search::search;
 use stops::sets::{DoubleQuote, SingleQuote, Template};
 
 // What a literal opens with: either quote, a backtick, or the brace behind a substitution.
-#[derive(Clone, Copy)]
+#[derive(Clone, Copy, PartialEq, Eq, Debug)]
 pub enum Opening {
     Double,
     Single,
@@ -23,7 +23,7 @@ pub enum Opening {
 }
 
 // How a literal ends, or breaks off.
-#[derive(Clone, Copy)]
+#[derive(Clone, Copy, PartialEq, Eq, Debug)]
 pub enum Ending {
     Closed,
     Substitution,
@@ -33,16 +33,16 @@ pub enum Ending {
 }
 
 // What stops a run of plain characters, and the place behind it.
-#[derive(Clone, Copy)]
+#[derive(Clone, Copy, PartialEq, Eq, Debug)]
 pub enum Stop {
-    Escape(Escape),
+    Escape(Result<Given, Invalid>),
     Return(usize),
     Dollar(usize),
     End(Ending, usize),
 }
 
 // Plain characters up to a place, and what stops them there.
-#[derive(Clone, Copy)]
+#[derive(Clone, Copy, PartialEq, Eq, Debug)]
 pub struct Piece {
     pub to: usize,
     pub stop: Stop,
@@ -67,8 +67,7 @@ fn find_stop(bytes: &[u8], at: usize, opening: Opening) -> Option<(usize, u8)>
     match opening {
         Opening::Double => search(&DoubleQuote, bytes, at),
         Opening::Single => search(&SingleQuote, bytes, at),
-        Opening::Template => search(&Template, bytes, at),
-        Opening::Resumption => search(&Template, bytes, at),
+        Opening::Template | Opening::Resumption => search(&Template, bytes, at),
     }
 }
 
