@@ -11,7 +11,7 @@ ghost use Rattle.escapes.specs.Escapes.{listed, unicode_units, Sound, Leads, Beh
 use crate::digits::{NoCodePoint, code_point, decimal_at, hex_digits, octal_at, skip_hex};
 use crate::places::stands_at;
 use source::cursor::Cursor;
-use source::fronts::behind_crlf;
+use source::fronts::behind;
 use source::trial::{Place, Trial};
 
 // The units of an escape. They are none, one or two: an Option has no place for two.
@@ -145,7 +145,7 @@ fn return_escape(bytes: &[u8], at: usize) -> Given
 {
     Given {
         units: Units::Nothing,
-        next: behind_crlf(bytes, at).unwrap_or(at + 1),
+        next: behind::<b'\r', b'\n'>(bytes, at).unwrap_or(at + 1),
     }
 }
 
