@@ -84,22 +84,14 @@ fn backslash(cursor: Cursor<'_>, at: usize, opening: Opening) -> Stop
     }
 }
 
-// Whether a byte stands at a place.
-fn stands(bytes: &[u8], at: usize, b: u8) -> bool
-    ensures { MatchBool result ((at < length bytes.now) × (slice_index bytes.now at ≡ b)) ((at < length bytes.now → slice_index bytes.now at ≢ b)) }
-{
-    at < bytes.len() && bytes[at] == b
-}
-
 // A dollar sign in a template.
 fn dollar(bytes: &[u8], at: usize) -> Stop
     requires { Here bytes.now at 36 }
     ensures { StopRead template bytes.now at result }
 {
-    if stands(bytes, at + 1, b'{') {
-        Stop::End(Ending::Substitution, at + 2)
-    } else {
-        Stop::Dollar(at + 1)
+    match bytes.get(at + 1) {
+        Some(b'{') => Stop::End(Ending::Substitution, at + 2),
+        _ => Stop::Dollar(at + 1),
     }
 }
 
@@ -108,10 +100,8 @@ fn carriage_return(bytes: &[u8], at: usize) -> Stop
     requires { Here bytes.now at 13 }
     ensures { StopRead template bytes.now at result }
 {
-    match behind::<b'\r', b'\n'>(bytes, at) {
-        Some(behind) => Stop::Return(behind),
-        None => Stop::Return(at + 1),
-    }
+    let next = behind::<b'\r', b'\n'>(bytes, at).unwrap_or(at + 1);
+    Stop::Return(next)
 }
 
 // A stop of a string that is no backslash.
@@ -119,11 +109,11 @@ fn string_stop(bytes: &[u8], at: usize, byte: u8, opening: Opening) -> Stop
     requires { (Here bytes.now at byte) × ((stops_in (body_of opening) byte ≡ true) × (((byte ≢ 92)) × (is_template (body_of opening) ≡ false))) }
     ensures { StopRead (body_of opening) bytes.now at result }
 {
-    if byte == b'\r' || byte == b'\n' {
-        Stop::End(Ending::LineBreak, at + 1)
-    } else {
-        Stop::End(Ending::Closed, at + 1)
-    }
+    let ending = match byte {
+        b'\r' | b'\n' => Ending::LineBreak,
+        _ => Ending::Closed,
+    };
+    Stop::End(ending, at + 1)
 }
 
 // A stop of a template that is no backslash.
@@ -131,12 +121,10 @@ fn template_stop(bytes: &[u8], at: usize, byte: u8) -> Stop
     requires { (Here bytes.now at byte) × ((stops_in template byte ≡ true) × ((byte ≢ 92))) }
     ensures { StopRead template bytes.now at result }
 {
-    if byte == b'$' {
-        dollar(bytes, at)
-    } else if byte == b'\r' {
-        carriage_return(bytes, at)
-    } else {
-        Stop::End(Ending::Closed, at + 1)
+    match byte {
+        b'$' => dollar(bytes, at),
+        b'\r' => carriage_return(bytes, at),
+        _ => Stop::End(Ending::Closed, at + 1),
     }
 }
 
