@@ -6,6 +6,7 @@ ghost use Rattle.escapes.specs.Places.{At};
 ghost use Rattle.escapes.specs.Digits.{DigitAt, DecimalAt, HexRead, CodePointRead, Skipped};
 
 use crate::places::ascii_at;
+use crate::unicode::Invalid;
 
 // The value of a hex digit.
 pub(crate) fn hex_value(b: u8) -> Option<u8>
@@ -26,10 +27,7 @@ pub(crate) fn hex_at(bytes: &[u8], at: usize) -> Option<u8>
     ensures digit_at { DigitAt hex_digits bytes.now at result }
     ensures small { MatchOption result (at ≡ at) (λ v. v < 16) }
 {
-    match ascii_at(bytes, at) {
-        None => None,
-        Some(b) => hex_value(b),
-    }
+    hex_value(ascii_at(bytes, at)?)
 }
 
 // The value of the octal digit at a place.
@@ -38,15 +36,9 @@ pub(crate) fn octal_at(bytes: &[u8], at: usize) -> Option<u8>
     ensures digit_at { DigitAt octal_digits bytes.now at result }
     ensures small { MatchOption result (at ≡ at) (λ v. v < 8) }
 {
-    match ascii_at(bytes, at) {
-        None => None,
-        Some(b) => {
-            if b'0' <= b && b <= b'7' {
-                Some(b - b'0')
-            } else {
-                None
-            }
-        }
+    match ascii_at(bytes, at)? {
+        b @ b'0'..=b'7' => Some(b - b'0'),
+        _ => None,
     }
 }
 
@@ -55,58 +47,49 @@ pub(crate) fn decimal_at(bytes: &[u8], at: usize) -> bool
     requires { At bytes.now at }
     ensures { DecimalAt bytes.now at result }
 {
-    match ascii_at(bytes, at) {
-        None => false,
-        Some(b) => b'0' <= b && b <= b'9',
-    }
+    matches!(ascii_at(bytes, at), Some(b'0'..=b'9'))
 }
 
-// A fixed number of hex digits: their value and the place behind them, or the place reached where there are fewer.
-pub(crate) enum Hex {
-    All(u16, usize),
-    Short(usize),
-}
-
-// `count` hex digits from a place on.
-pub(crate) fn hex_digits(bytes: &[u8], at: usize, count: usize) -> Hex
+// `count` hex digits from a place on: their value and the place behind them, or the place reached where there are fewer.
+pub(crate) fn hex_digits(bytes: &[u8], at: usize, count: usize) -> Result<(u16, usize), Invalid>
     requires { (At bytes.now at) × (count ≤ 4) }
     ensures { HexRead bytes.now at count result }
 {
     let mut value: u16 = 0;
     for i in 0..count {
         let Some(digit) = hex_at(bytes, at + i) else {
-            return Hex::Short(at + i);
+            return Err(Invalid { next: at + i });
         };
-        value = value * 16 + digit as u16;
+        value = value * 16 + u16::from(digit);
     }
-    Hex::All(value, at + count)
+    Ok((value, at + count))
 }
 
-// The digits of a code point in braces: its value and the place behind; none; or the place behind the digit that lifts the value above 10FFFF.
-pub(crate) enum CodePoint {
-    Value(u32, usize),
+// Why hex digits make no code point: there are none, or one lifts the value above 10FFFF, with the place behind it.
+#[derive(Clone, Copy, PartialEq, Eq, Debug)]
+pub(crate) enum NoCodePoint {
     Missing,
     Over(usize),
 }
 
-// Hex digits from a place on, as long as they make a code point.
-pub(crate) fn code_point(bytes: &[u8], at: usize) -> CodePoint
+// Hex digits from a place on, as long as they make a code point: its value and the place behind.
+pub(crate) fn code_point(bytes: &[u8], at: usize) -> Result<(u32, usize), NoCodePoint>
     requires { At bytes.now at }
     ensures { CodePointRead bytes.now at result }
 {
-    let mut value = match hex_at(bytes, at) {
-        None => return CodePoint::Missing,
-        Some(digit) => digit as u32,
+    let Some(first) = hex_at(bytes, at) else {
+        return Err(NoCodePoint::Missing);
     };
+    let mut value = u32::from(first);
     let mut to = at + 1;
     while let Some(digit) = hex_at(bytes, to) {
-        value = value * 16 + digit as u32;
+        value = value * 16 + u32::from(digit);
         to += 1;
         if value > 0x10FFFF {
-            return CodePoint::Over(to);
+            return Err(NoCodePoint::Over(to));
         }
     }
-    CodePoint::Value(value, to)
+    Ok((value, to))
 }
 
 // The place behind the hex digits from a place on.

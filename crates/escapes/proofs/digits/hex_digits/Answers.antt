@@ -15,7 +15,7 @@ pub overflow_add-value : goal.overflow_add-value
 overflow_add-value c = omega (arith, c.in-Some.ensures.small, digits_small c.args.bytes.now c.args.at c.loop-i.value _ c.loop-i.i c.loop-i.invariant.0 c.loop-i.invariant.1 (omega arith))
 
 pub loop-i-preserved : goal.loop-i-preserved
-loop-i-preserved c = digits_more c.args.bytes.now c.args.at c.loop-i.value (c.args.at + c.loop-i.i) _ c.loop-i.i _ (omega arith) c.loop-i.invariant.0 c.loop-i.invariant.1 c.in-Some.ensures.digit_at
+loop-i-preserved c = rw c.from.ensures (digits_more c.args.bytes.now c.args.at c.loop-i.value (c.args.at + c.loop-i.i) _ c.loop-i.i _ (omega arith) c.loop-i.invariant.0 c.loop-i.invariant.1 c.in-Some.ensures.digit_at)
 
 pub returns : goal.returns
 returns c = digits_done c.args.bytes.now c.args.at c.loop-i.value (c.args.at + c.loop-i.i) _ c.args.count c.loop-i.invariant.0 (omega (arith, c.loop-i.invariant.1)) (omega arith)
