@@ -1,55 +1,37 @@
-// Replays data/cases.txt: texts, stops, moves and characters, each with the answer expected of it.
+//! Replays data/cases.txt: texts, stops, moves and characters, each with the answer expected of it.
 #![tactic(auto)]
 
-use anyhow::anyhow;
+use anyhow::bail;
 use refusals::Refusal;
+use replaying::{cut, replay, unhexed};
 use source::cursor::Cursor;
 use source::text::{LIMIT, Text, check};
 use source::trial::{Place, Trial};
 use std::alloc::Global;
-use std::fs;
+use std::fmt::Display;
 use stops::search::search;
 use stops::sets::{DoubleQuote, SingleQuote, StopSet, Template};
 use stops::table::Table;
 use survey::survey::count_chars;
 
-// The bytes that a word of hex digits writes; `-` writes none.
-fn unhexed(heap: Global, word: &str) -> anyhow::Result<Vec<u8>> {
-    let mut bytes = Vec::new(heap);
-    if word == "-" {
-        return Ok(bytes);
-    }
-    let mut high: Option<u8> = None;
-    for c in word.chars() {
-        let Some(digit) = c.to_digit(16) else {
-            return Err(anyhow!("no hex digit"));
-        };
-        let low = (digit & 15) as u8;
-        match high {
-            None => high = Some(low),
-            Some(h) => {
-                bytes.push((h & 15) * 16 + low)?;
-                high = None;
-            }
+// What the making of a text says of some bytes.
+fn told_of_text(heap: Global, bytes: &[u8]) -> anyhow::Result<String> {
+    match Text::try_from(bytes) {
+        Ok(text) => Ok(format!(in heap; "ok {}", count_chars(text))?),
+        Err(refusal @ Refusal::NotUtf8(prefix)) => {
+            Ok(format!(in heap; "refused {refusal} {prefix}")?)
         }
+        Err(refusal) => Ok(format!(in heap; "refused {refusal}")?),
     }
-    Ok(bytes)
 }
 
-// What the checking call says of some bytes.
-fn told_of_text(heap: Global, bytes: &[u8]) -> anyhow::Result<String> {
-    match check(bytes) {
-        Ok(()) => {
-            let chars = count_chars(Text::new(bytes));
-            Ok(format!(in heap; "ok {chars}")?)
-        }
-        Err(refusal) => {
-            let number = refusal.number();
-            match refusal {
-                Refusal::NotUtf8(prefix) => Ok(format!(in heap; "refused {number} {prefix}")?),
-                _ => Ok(format!(in heap; "refused {number}")?),
-            }
-        }
+fn told_of_pair<A: Display + Copy, B: Display + Copy>(
+    heap: Global,
+    pair: Option<(A, B)>,
+) -> anyhow::Result<String> {
+    match pair {
+        Some((a, b)) => Ok(format!(in heap; "{a} {b}")?),
+        None => Ok(String::from_str(heap, "none")?),
     }
 }
 
@@ -59,67 +41,62 @@ fn told_of_stop(heap: Global, set: &str, bytes: &[u8], from: usize) -> anyhow::R
         "double" => search(&DoubleQuote, bytes, from),
         "single" => search(&SingleQuote, bytes, from),
         "template" => search(&Template, bytes, from),
-        _ => return Err(anyhow!("no such set")),
+        _ => bail!("no such set"),
     };
-    match found {
-        Some((place, byte)) => Ok(format!(in heap; "{place} {byte}")?),
-        None => Ok(format!(in heap; "none")?),
-    }
+    told_of_pair(heap, found)
+}
+
+fn cursor_at(bytes: &[u8], place: usize) -> Cursor<'_> {
+    let mut cursor = Cursor::new(Text::new(bytes));
+    cursor.move_to(place);
+    cursor
 }
 
 // Where a cursor stands that is told to move from the start.
 fn told_of_move(heap: Global, bytes: &[u8], to: usize) -> anyhow::Result<String> {
-    let mut cursor = Cursor::new(Text::new(bytes));
-    cursor.move_to(to);
-    let place = cursor.place();
-    Ok(format!(in heap; "{place}")?)
+    Ok(cursor_at(bytes, to).place().to_string(heap)?)
 }
 
 // The character at a place and the place behind it.
 fn told_of_char(heap: Global, bytes: &[u8], at: usize) -> anyhow::Result<String> {
-    let mut cursor = Cursor::new(Text::new(bytes));
-    cursor.move_to(at);
-    match cursor.next() {
-        Some((number, behind)) => Ok(format!(in heap; "{number} {behind}")?),
-        None => Ok(format!(in heap; "none")?),
-    }
+    told_of_pair(heap, cursor_at(bytes, at).next())
 }
 
-// One more word of a line.
-fn cut(line: &str) -> anyhow::Result<(&str, &str)> {
-    match line.split_once(' ') {
-        Some((word, rest)) => Ok((word, rest)),
-        None => Err(anyhow!("a line is too short")),
-    }
+// Whether what is told of bytes at a place is what a case expects.
+fn agrees_at<F: FnOnce(&[u8], usize) -> anyhow::Result<String>>(
+    heap: Global,
+    case: &str,
+    told: F,
+) -> anyhow::Result<bool>
+    requires { F.IsAlwaysCallable told }
+{
+    let (word, rest) = cut(case)?;
+    let (place, expected) = cut(rest)?;
+    let bytes = unhexed(heap, word)?;
+    Ok(told(bytes.as_slice(), place.parse::<usize>()?)?.as_str() == expected)
 }
 
 // Whether a case gives the answer that its line expects.
 fn agrees(heap: Global, line: &str) -> anyhow::Result<bool> {
-    let (kind, rest) = cut(line)?;
-    if kind == "text" {
-        let (word, expected) = cut(rest)?;
-        let bytes = unhexed(heap, word)?;
-        return Ok(told_of_text(heap, bytes.as_slice())?.as_str() == expected);
+    let (kind, case) = cut(line)?;
+    match kind {
+        "text" => {
+            let (word, expected) = cut(case)?;
+            let bytes = unhexed(heap, word)?;
+            Ok(told_of_text(heap, bytes.as_slice())?.as_str() == expected)
+        }
+        "stop" => {
+            let (set, case) = cut(case)?;
+            agrees_at(
+                heap,
+                case,
+                |bytes, from| told_of_stop(heap, set, bytes, from),
+            )
+        }
+        "move" => agrees_at(heap, case, |bytes, to| told_of_move(heap, bytes, to)),
+        "char" => agrees_at(heap, case, |bytes, at| told_of_char(heap, bytes, at)),
+        _ => bail!("no such kind of case"),
     }
-    if kind == "stop" {
-        let (set, rest) = cut(rest)?;
-        let (word, rest) = cut(rest)?;
-        let (from, expected) = cut(rest)?;
-        let bytes = unhexed(heap, word)?;
-        return Ok(
-            told_of_stop(heap, set, bytes.as_slice(), from.parse::<usize>()?)?.as_str() == expected,
-        );
-    }
-    let (word, rest) = cut(rest)?;
-    let (place, expected) = cut(rest)?;
-    let bytes = unhexed(heap, word)?;
-    let at = place.parse::<usize>()?;
-    let told = match kind {
-        "move" => told_of_move(heap, bytes.as_slice(), at)?,
-        "char" => told_of_char(heap, bytes.as_slice(), at)?,
-        _ => return Err(anyhow!("no such kind of case")),
-    };
-    Ok(told.as_str() == expected)
 }
 
 // A text of exactly the limit is taken, and one byte more is refused.
@@ -156,28 +133,12 @@ fn trial_puts_back() -> bool {
     first && back && second && place.at == 3
 }
 
-fn replay(rt: &HostRuntime) -> anyhow::Result<()> {
-    let text = fs::read_to_string(rt, "cases.txt")?;
-    let mut same = 0u64;
-    let mut other = 0u64;
-    for line in text.as_str().lines() {
-        if agrees(rt.alloc(), line)? {
-            same = same.saturating_add(1);
-        } else {
-            other = other.saturating_add(1);
-            println!(rt; "differs: {line}")?;
-        }
-    }
-    println!(rt; "{same} agree, {other} differ")?;
-    let limit = at_the_limit(rt.alloc())?;
-    println!(rt; "the limit is kept: {limit}")?;
-    let law = law_is_kept();
-    println!(rt; "the law of stop sets is kept: {law}")?;
-    let back = trial_puts_back();
-    println!(rt; "a trial puts the place back: {back}")?;
-    Ok(())
-}
-
 fn main(rt: HostRuntime) -> anyhow::Result<()> {
-    replay(&rt)
+    let heap = rt.alloc();
+    let tally = replay(&rt, "cases.txt", |line| agrees(heap, line))?;
+    println!(rt; "{tally}")?;
+    println!(rt; "the limit is kept: {}", at_the_limit(heap)?)?;
+    println!(rt; "the law of stop sets is kept: {}", law_is_kept())?;
+    println!(rt; "a trial puts the place back: {}", trial_puts_back())?;
+    Ok(())
 }
