@@ -6,14 +6,18 @@ use Rattle.faults.specs.declared.list.Fault.{Fault}
 use Rattle.tokens.specs.declared.Token.{Token}
 use Rattle.ledger.specs.Calls.{Reply, token, valued, united, refused}
 use Rattle.ledger.specs.Ledger.{fault_by}
-use Rattle.session.specs.declared.Value.{Value}
 
 abbrev pub token_reply : Result Token Refusal → Reply
 token_reply (Ok t) = token t
 token_reply (Err e) = refused (number_of e)
 
-abbrev pub value_reply : Result Value Refusal → Reply
-value_reply (Ok v) = valued v.cooked v.length
+-- the length of a value, or that none is cooked
+abbrev pub value_by : Option ℕ → Reply
+value_by None = valued false 0
+value_by (Some n) = valued true n
+
+abbrev pub value_reply : Result (Option ℕ) Refusal → Reply
+value_reply (Ok v) = value_by v
 value_reply (Err e) = refused (number_of e)
 
 abbrev pub unit_by : Result ℕ ℕ → Reply
@@ -27,6 +31,6 @@ abbrev pub fault_reply : Result Fault Refusal → Reply
 fault_reply r = fault_by (numbered r)
 
 -- what the value question says of a number, or of none, in these finished values
-abbrev pub value_of : List (List ℕ) → Option ℕ → Value
-value_of vs None = record { cooked = false; length = 0 }
-value_of vs (Some n) = record { cooked = true; length = length (slice_index_or vs n []) }
+abbrev pub value_of : List (List ℕ) → Option ℕ → Option ℕ
+value_of vs None = None
+value_of vs (Some n) = Some (length (slice_index_or vs n []))

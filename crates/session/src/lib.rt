@@ -8,7 +8,6 @@ ghost use Rattle.session.specs.Calls.{Lives, GoesOn};
 
 use faults::{Fault, FaultList};
 use look::answer::Scan;
-use refusals::Refusal;
 use slots::{Slot, SlotMap};
 use store::ValueStore;
 use tokens::Token;
@@ -28,13 +27,6 @@ pub struct Session<'a> {
     faults: FaultList<'a>,
 }
 
-// Whether a value is cooked, and its length, 0 if none.
-#[derive(Clone, Copy)]
-pub struct Value {
-    pub cooked: bool,
-    pub length: usize,
-}
-
 // One of the calls.
 #[derive(Clone, Copy)]
 pub enum Call {
@@ -45,15 +37,15 @@ pub enum Call {
     FaultAt(usize),
 }
 
-// What is answered to it.
+// What is answered to it, unless it is refused.
 #[derive(Clone, Copy)]
 pub enum Answer {
     Token(Token),
-    Value(Value),
+    // the length of the value, or that none is cooked
+    Value(Option<usize>),
     Unit(u16),
     Count(usize),
     Fault(Fault),
-    Refused(Refusal),
 }
 
 impl<'a> Session<'a> {

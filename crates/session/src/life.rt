@@ -7,6 +7,7 @@ ghost use Rattle.session.specs.Scans.{bytes_of};
 
 use super::{Answer, Call, Session};
 use faults::Fault;
+use refusals::Refusal;
 use slots::Slot;
 use source::text::Text;
 use store::ValueStore;
@@ -19,7 +20,7 @@ pub fn serve<'a, S: ValueStore>(
     templates: &'a mut [Slot<Option<usize>>],
     records: &'a mut [Fault],
     calls: &[Call],
-    answers: &mut [Answer],
+    answers: &mut [Result<Answer, Refusal>],
 ) -> Session<'a>
     ensures lives { Lives S.ValueStore.weight (lent (length strings.old) (length templates.old) (length records.old) (S.ValueStore.held store.old)) (bytes_of text.entry) (S.ValueStore.held store.old).values (transcript calls.now answers.new) result (S.ValueStore.held store.new) }
     ensures unused { unused (memory_of result) ≡ unused (record { strings = strings.old; templates = templates.old; records = records.old }) }
@@ -27,9 +28,9 @@ pub fn serve<'a, S: ValueStore>(
 {
     let mut session = Session::new(store, strings, templates, records);
     let many = calls.len().min(answers.len());
-    for i in 0..many {
-        let call = calls[i];
-        answers[i] = session.perform(store, text, call);
+    // the answers by index, since a proof loses what a zip over iter_mut writes
+    for (i, call) in calls[..many].iter().enumerate() {
+        answers[i] = session.perform(store, text, *call);
     }
     session
 }

@@ -7,33 +7,27 @@ ghost use Rattle.ledger.specs.Ledger.{number_by};
 ghost use Rattle.session.specs.Replies.{value_reply, unit_reply, fault_reply, value_of};
 ghost use Rattle.session.specs.Calls.{Asks};
 
-use super::{Session, Value};
+use super::Session;
 use faults::Fault;
 use refusals::Refusal;
 use store::ValueStore;
 
 impl<'a> Session<'a> {
-    // Whether a value is cooked at a start, and its length.
-    pub fn value<S: ValueStore>(&self, store: &S, start: usize) -> Result<Value, Refusal>
+    // The length of the value at a start, or that none is cooked.
+    pub fn value<S: ValueStore>(&self, store: &S, start: usize) -> Result<Option<usize>, Refusal>
         ensures { Asks S.ValueStore.weight (ask.value start) self.now (S.ValueStore.held store.now) (value_reply result) }
     {
-        match self.entry(start) {
-            None => Err(Refusal::NoEntry),
-            Some(number) => Ok(value_of(store, number)),
-        }
+        let number = self.entry(start).ok_or(Refusal::NoEntry)?;
+        Ok(value_of(store, number))
     }
 
     // One unit of the value at a start.
     pub fn unit<S: ValueStore>(&self, store: &S, start: usize, index: usize) -> Result<u16, Refusal>
         ensures { Asks S.ValueStore.weight (ask.unit start index) self.now (S.ValueStore.held store.now) (unit_reply result) }
     {
-        match self.entry(start) {
-            None => Err(Refusal::NoEntry),
-            Some(number) => match number {
-                None => Err(Refusal::IndexPastEnd),
-                Some(n) => store.value_unit(n, index),
-            },
-        }
+        let number = self.entry(start).ok_or(Refusal::NoEntry)?;
+        let n = number.ok_or(Refusal::IndexPastEnd)?;
+        store.value_unit(n, index)
     }
 
     // How many faults are recorded.
@@ -61,24 +55,10 @@ impl<'a> Session<'a> {
     }
 }
 
-// The value of a number, or of none. A number that the store does not have counts as an empty value.
-fn value_of<S: ValueStore>(store: &S, number: Option<usize>) -> Value
+// The length of the value of a number, or none. A number that the store does not have counts as an empty value.
+fn value_of<S: ValueStore>(store: &S, number: Option<usize>) -> Option<usize>
     ensures { result ≡ value_of (S.ValueStore.held store.now).values number }
 {
-    match number {
-        None => Value {
-            cooked: false,
-            length: 0,
-        },
-        Some(n) => match store.value_len(n) {
-            Ok(length) => Value {
-                cooked: true,
-                length,
-            },
-            Err(_) => Value {
-                cooked: true,
-                length: 0,
-            },
-        },
-    }
+    let n = number?;
+    Some(store.value_len(n).unwrap_or(0))
 }

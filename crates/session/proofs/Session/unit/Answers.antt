@@ -1,17 +1,25 @@
-use Rattle.std.proofs.Common.{Some, sym, refl, ap, ◌∙◌}
+use Rattle.std.proofs.Common.{◌≡◌, Some, sym, ap, ◌∙◌, arith}
+use Rattle.std.proofs.lemmas.Result.{err_from_is_err_and}
 use Rattle.refusals.specs.declared.Refusal.TheVariants.{IndexPastEnd, NoEntry}
-use Rattle.session.proofs.Asked.{no_entry_unit, no_value_unit, a_unit}
+use Rattle.session.proofs.Asked.{missing, no_entry_unit, no_value_unit, a_unit}
 use Rattle.session.proofs.Session.unit.Goals as goal
 
-pub returns-in-None : goal.returns-in-None
-returns-in-None g c = no_entry_unit g.S.ValueStore.weight c.args.self.now (g.S.ValueStore.held c.args.store.now) c.args.start c.args.index NoEntry refl (sym c.in-None.is ∙ c.entry.ensures)
+pub returns-in_err-number : goal.returns-in_err-number
+returns-in_err-number g c =
+    let p = err_from_is_err_and c.from_residual.result c.from_residual.ensures.1 in
+    let m = missing c.entry.result NoEntry _ _ _ _ c.ok_or.ensures.value c.in_err-number.was p.1 p.2 in
+    no_entry_unit g.S.ValueStore.weight c.args.self.now (g.S.ValueStore.held c.args.store.now) c.args.start c.args.index _ m.1 (sym m.0 ∙ c.entry.ensures)
 
-pub returns-in-None-number : goal.returns-in-None-number
-returns-in-None-number g c =
-    no_value_unit g.S.ValueStore.weight c.args.self.now (g.S.ValueStore.held c.args.store.now) c.args.start c.args.index IndexPastEnd refl
-    (sym (c.in-Some.is ∙ ap Some c.in-None-number.is) ∙ c.entry.ensures)
+pub returns-in_err-n : goal.returns-in_err-n
+returns-in_err-n g c =
+    let p = err_from_is_err_and c.from_residual-in_err-n.result c.from_residual-in_err-n.ensures.1 in
+    let m = missing c.in_ok-number.number IndexPastEnd _ _ _ _ c.ok_or-2.ensures.value c.in_err-n.was p.1 p.2 in
+    let is : Some c.in_ok-number.number ≡ c.entry.result = grind (arith, c.in_ok-number.ensures, c.in_ok-number.was) in
+    no_value_unit g.S.ValueStore.weight c.args.self.now (g.S.ValueStore.held c.args.store.now) c.args.start c.args.index _ m.1 (ap Some (sym m.0) ∙ is ∙ c.entry.ensures)
 
-pub returns-in-Some-number : goal.returns-in-Some-number
-returns-in-Some-number g c =
-    a_unit g.S.ValueStore.weight c.args.self.now (g.S.ValueStore.held c.args.store.now) c.args.start c.args.index c.in-Some-number.n c.value_unit.result c.value_unit.ensures
-    (sym (c.in-Some.is ∙ ap Some c.in-Some-number.is) ∙ c.entry.ensures)
+pub returns : goal.returns
+returns g c =
+    let is : Some c.in_ok-number.number ≡ c.entry.result = grind (arith, c.in_ok-number.ensures, c.in_ok-number.was) in
+    let has : Some c.in_ok-n.n ≡ c.in_ok-number.number = grind (arith, c.in_ok-n.ensures, c.in_ok-n.was) in
+    a_unit g.S.ValueStore.weight c.args.self.now (g.S.ValueStore.held c.args.store.now) c.args.start c.args.index c.in_ok-n.n c.value_unit.result c.value_unit.ensures
+    (ap Some has ∙ is ∙ c.entry.ensures)
