@@ -11,7 +11,7 @@ ghost use Rattle.escapes.specs.Escapes.{listed, unicode_units, Sound, Leads, Beh
 use crate::digits::{CodePoint, Hex, code_point, decimal_at, hex_digits, octal_at, skip_hex};
 use crate::places::stands_at;
 use source::cursor::Cursor;
-use source::fronts::behind_crlf;
+use source::fronts::behind;
 use source::trial::{Place, Trial};
 
 // The units of an escape.
@@ -136,7 +136,7 @@ fn return_escape(bytes: &[u8], at: usize) -> Escape
     requires { Here bytes.now at 13 }
     ensures { (m : Bool) → Behind m bytes.now at result }
 {
-    match behind_crlf(bytes, at) {
+    match behind::<b'\r', b'\n'>(bytes, at) {
         Some(behind) => Escape::Gives(Units::Nothing, behind),
         None => Escape::Gives(Units::Nothing, at + 1),
     }

@@ -9,7 +9,7 @@ ghost use Rattle.pieces.specs.Pieces.{body_of, stops_in, StopRead, PieceRead};
 
 use escapes::unicode::{Escape, read_escape};
 use source::cursor::Cursor;
-use source::fronts::behind_crlf;
+use source::fronts::behind;
 use stops::search::search;
 use stops::sets::{DoubleQuote, SingleQuote, Template};
 
@@ -109,7 +109,7 @@ fn carriage_return(bytes: &[u8], at: usize) -> Stop
     requires { Here bytes.now at 13 }
     ensures { StopRead template bytes.now at result }
 {
-    match behind_crlf(bytes, at) {
+    match behind::<b'\r', b'\n'>(bytes, at) {
         Some(behind) => Stop::Return(behind),
         None => Stop::Return(at + 1),
     }
