@@ -23,12 +23,8 @@ pub fn commands_of<'a>(
         if front.is_empty() {
             return Ok((commands, after));
         }
-        let Some(c) = command(front) else {
-            return Err(NoCommands::Malformed);
-        };
-        if commands.push(c).is_err() {
-            return Err(NoCommands::NoMemory);
-        }
+        let c = command(front).ok_or(NoCommands::Malformed)?;
+        commands.push(c)?;
         rest = after;
     }
     Err(NoCommands::Malformed)
@@ -38,30 +34,20 @@ pub fn commands_of<'a>(
 pub fn command(line: &[u8]) -> Option<Command>
     ensures { MatchOption result ((c : Command) → Line c line.now → ⊥) (λ c. Line c line.now) }
 {
-    let Some((word, digits)) = word(line) else {
-        return None;
-    };
-    match number(digits) {
-        Some(start) => Some(Command { word, start }),
-        None => None,
-    }
+    let (word, digits) = word(line)?;
+    let start = number(digits)?;
+    Some(Command { word, start })
 }
 
 // The word at the front of a line, with the bytes after its space.
 fn word(line: &[u8]) -> Option<(Word, &[u8])>
     ensures { MatchOption result ((w : Word) (ds : List ℕ) → line.now ≢ spelled w ++ ds) (λ p. line.now ≡ spelled p.0 ++ p.1.now) }
 {
-    if let Some(rest) = after(line, b"string ") {
-        return Some((Word::Str, rest));
-    }
-    if let Some(rest) = after(line, b"template ") {
-        return Some((Word::Template, rest));
-    }
-    if let Some(rest) = after(line, b"resume ") {
-        return Some((Word::Resume, rest));
-    }
-    if let Some(rest) = after(line, b"value ") {
-        return Some((Word::Value, rest));
+    let words = [Word::Str, Word::Template, Word::Resume, Word::Value];
+    for word in words {
+        if let Some(digits) = after(line, word.front()) {
+            return Some((word, digits));
+        }
     }
     None
 }
@@ -82,7 +68,7 @@ fn number(digits: &[u8]) -> Option<usize>
     }
     let mut n = 0usize;
     for b in digits {
-        if *b < b'0' || *b > b'9' {
+        if !b.is_ascii_digit() {
             return None;
         }
         n = n * 10 + usize::from(*b - b'0');
@@ -94,10 +80,6 @@ fn number(digits: &[u8]) -> Option<usize>
 fn line(text: &[u8]) -> Option<(&[u8], &[u8])>
     ensures { MatchOption result (Lacks text.now) (λ p. (text.now ≡ p.0.now ++ 10 ∷ p.1.now) × Lacks p.0.now) }
 {
-    for (i, b) in text.iter().enumerate() {
-        if *b == b'\n' {
-            return Some((&text[0..i], &text[i + 1..]));
-        }
-    }
-    None
+    let end = text.iter().position(|b| *b == b'\n')?;
+    Some((&text[..end], &text[end + 1..]))
 }
