@@ -127,14 +127,10 @@ behind_at : (m : Bool) (bs : List ℕ) (p : ℕ) (e : Result Given Invalid) → 
 behind_at m bs p (Ok g) x = (x.1, x.2)
 behind_at m bs p (Err e) x = (x.1, x.2)
 
-escape_read : (m : Bool) (bs : List ℕ) (p : ℕ) (e : Result Given Invalid) → Behind m bs p e → EscapeRead m bs p (Some e)
+pub escape_read : (m : Bool) (bs : List ℕ) (p : ℕ) (e : Result Given Invalid) → Behind m bs p e → EscapeRead m bs p (Some e)
 escape_read m bs p e x =
     let a = behind_at m bs p e x in (
       (λ body b i h. subst (λ (z : Bool). Part body (utf8 bs) b (units_told z e) (faults_told z b e) true (reached e)) i (part_of bs p e body (subst (λ (z : Bool). Behind z bs p e) (sym i) x) b h)),
       a.0,
       a.1,
     )
-
--- the same of a cursor's bytes and place as calls told them
-pub escape_read_by : (m : Bool) (bs bs' : List ℕ) (p p' : ℕ) (e : Result Given Invalid) → bs' ≡ bs → p' ≡ p → Behind m bs' p' e → EscapeRead m bs p (Some e)
-escape_read_by m bs bs' p p' e f g x = escape_read m bs p e (subst (λ (z : ℕ). Behind m bs z e) g (subst (λ (z : List ℕ). Behind m z p' e) f x))

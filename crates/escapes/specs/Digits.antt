@@ -4,6 +4,7 @@ use Rattle.grammar.specs.Utf8.{utf8}
 use Rattle.grammar.specs.Rule.{Span, Ahead, but, only, member, hex_digits, digit, Run, mv, just_above, meets}
 use Rattle.grammar.specs.Production.{code_point, decimal_digit, decimal_digits}
 use Rattle.escapes.specs.Places.{At, Here}
+use Rattle.escapes.specs.declared.digits.HexDigits.{HexDigits}
 use Rattle.escapes.specs.declared.digits.NoCodePoint.{NoCodePoint}
 use Rattle.escapes.specs.declared.digits.NoCodePoint.TheVariants.{Missing, Over}
 use Rattle.escapes.specs.declared.unicode.Invalid.{Invalid}
@@ -31,6 +32,11 @@ pub record Digits (bs : List ℕ) (p v q : ℕ) : Type 0 where
   pub value : v ≡ mv 16 chars
   pub behind : At bs q
   pub moves : q ≡ p + length chars
+
+-- the next of the digits is taken, or none stands there, and the reader stays
+abbrev pub TakesHex : HexDigits → Option ℕ → HexDigits → Type 0
+TakesHex r None s = (s.cursor.bytes.now ≡ r.cursor.bytes.now) × (s.cursor.place.at ≡ r.cursor.place.at) × Ahead (utf8 r.cursor.bytes.now r.cursor.place.at) (but hex_digits) true
+TakesHex r (Some v) s = (s.cursor.bytes.now ≡ r.cursor.bytes.now) × (s.cursor.place.at ≡ r.cursor.place.at + 1) × Digit hex_digits r.cursor.bytes.now r.cursor.place.at v × (v < 16)
 
 -- n of them, or fewer with no other behind
 abbrev pub HexRead : List ℕ → ℕ → ℕ → Result (ℕ × ℕ) Invalid → Type 0

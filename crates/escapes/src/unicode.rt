@@ -9,7 +9,7 @@ ghost use Rattle.escapes.specs.Digits.{Digit, DecimalAt};
 ghost use Rattle.escapes.specs.Escapes.{listed, unicode_units, Sound, Leads, Behind, Low, EscapeRead};
 
 use crate::digits::{NoCodePoint, code_point, decimal_at, hex_digits, octal_at, skip_hex};
-use crate::places::stands_at;
+use crate::places::{ahead, moved, stands_at};
 use source::cursor::Cursor;
 use source::fronts::behind;
 use source::trial::{Place, Trial};
@@ -139,22 +139,23 @@ fn unicode_units(escape: UnicodeEscape) -> Units
 }
 
 // A CR, alone or with the LF behind it.
-fn return_escape(bytes: &[u8], at: usize) -> Given
-    requires { Here bytes.now at 13 }
-    ensures { (m : Bool) → Behind m bytes.now at (Ok result) }
+fn return_escape(cursor: Cursor<'_>) -> Given
+    requires { Here cursor.bytes.now cursor.place.at 13 }
+    ensures { (m : Bool) → Behind m cursor.entry.bytes.now cursor.entry.place.at (Ok result) }
 {
+    let at = cursor.place();
     Given {
         units: Units::Nothing,
-        next: behind::<b'\r', b'\n'>(bytes, at).unwrap_or(at + 1),
+        next: behind::<b'\r', b'\n'>(cursor.bytes(), at).unwrap_or(at + 1),
     }
 }
 
 // `x` and two hex digits.
-fn hex_escape(bytes: &[u8], at: usize) -> Result<Given, Invalid>
-    requires { Here bytes.now at 120 }
-    ensures { (m : Bool) → Behind m bytes.now at result }
+fn hex_escape(cursor: Cursor<'_>) -> Result<Given, Invalid>
+    requires { Here cursor.bytes.now cursor.place.at 120 }
+    ensures { (m : Bool) → Behind m cursor.entry.bytes.now cursor.entry.place.at result }
 {
-    let (unit, next) = hex_digits(bytes, at + 1, 2)?;
+    let (unit, next) = hex_digits(ahead(cursor, 1), 2)?;
     Ok(Given {
         units: Units::One(unit),
         next,
@@ -162,34 +163,41 @@ fn hex_escape(bytes: &[u8], at: usize) -> Result<Given, Invalid>
 }
 
 // `u{`, hex digits of a code point, and `}`.
-fn braces_escape(bytes: &[u8], at: usize, in_template: bool) -> Result<Given, Invalid>
-    requires { (Here bytes.now at 117) × (Here bytes.now (at + 1) 123) }
-    ensures { Behind in_template bytes.now at result }
+fn braces_escape(cursor: Cursor<'_>, in_template: bool) -> Result<Given, Invalid>
+    requires { (Here cursor.bytes.now cursor.place.at 117) × (Here cursor.bytes.now (cursor.place.at + 1) 123) }
+    ensures { Behind in_template cursor.entry.bytes.now cursor.entry.place.at result }
 {
-    match code_point(bytes, at + 2) {
-        Err(NoCodePoint::Missing) => Err(Invalid { next: at + 2 }),
+    match code_point(ahead(cursor, 2)) {
+        Err(NoCodePoint::Missing) => Err(Invalid {
+            next: cursor.place() + 2,
+        }),
         Err(NoCodePoint::Over(to)) if in_template => Err(Invalid {
-            next: skip_hex(bytes, to),
+            next: skip_hex(moved(cursor, to)),
         }),
         Err(NoCodePoint::Over(next)) => Err(Invalid { next }),
-        Ok((value, to)) if stands_at(bytes, to, b'}') => Ok(Given {
-            units: unicode_units(one_of(value)),
-            next: to + 1,
-        }),
-        Ok((_, next)) => Err(Invalid { next }),
+        Ok((value, to)) => {
+            let behind = moved(cursor, to);
+            if !stands_at(behind, b'}') {
+                return Err(Invalid { next: to });
+            }
+            Ok(Given {
+                units: unicode_units(one_of(value)),
+                next: to + 1,
+            })
+        }
     }
 }
 
 // Takes `\u` and four hex digits of a low half, or nothing.
-fn low_half(bytes: &[u8], place: &mut Place) -> Option<u16>
-    requires { At bytes.now place.old.at }
-    ensures { MatchOption result (place.new.at ≡ place.old.at) (λ l. Low bytes.now place.old.at l place.new.at) }
+fn low_half(cursor: Cursor<'_>, place: &mut Place) -> Option<u16>
+    requires { At cursor.bytes.now place.old.at }
+    ensures { MatchOption result (place.new.at ≡ place.old.at) (λ l. Low cursor.entry.bytes.now place.old.at l place.new.at) }
 {
-    let mut trial = Trial::begin(bytes, place);
+    let mut trial = Trial::begin(cursor.bytes(), place);
     if !trial.take_unicode_prefix() {
         return None;
     }
-    let Ok((low, to)) = hex_digits(bytes, trial.at(), 4) else {
+    let Ok((low, to)) = hex_digits(moved(cursor, trial.at()), 4) else {
         return None;
     };
     if !(0xDC00..=0xDFFF).contains(&low) {
@@ -201,11 +209,11 @@ fn low_half(bytes: &[u8], place: &mut Place) -> Option<u16>
 }
 
 // `u` and four hex digits; behind a high half a low half is taken too.
-fn unit_escape(bytes: &[u8], at: usize) -> Result<Given, Invalid>
-    requires { (Here bytes.now at 117) × (Ahead (utf8 bytes.now (at + 1)) (but ((123, 123) ∷ [])) true) }
-    ensures { (m : Bool) → Behind m bytes.now at result }
+fn unit_escape(cursor: Cursor<'_>) -> Result<Given, Invalid>
+    requires { (Here cursor.bytes.now cursor.place.at 117) × (Ahead (utf8 cursor.bytes.now (cursor.place.at + 1)) (but ((123, 123) ∷ [])) true) }
+    ensures { (m : Bool) → Behind m cursor.entry.bytes.now cursor.entry.place.at result }
 {
-    let (high, to) = hex_digits(bytes, at + 1, 4)?;
+    let (high, to) = hex_digits(ahead(cursor, 1), 4)?;
     let alone = Given {
         units: unicode_units(one_of(u32::from(high))),
         next: to,
@@ -214,7 +222,7 @@ fn unit_escape(bytes: &[u8], at: usize) -> Result<Given, Invalid>
         return Ok(alone);
     }
     let mut place = Place { at: to };
-    match low_half(bytes, &mut place) {
+    match low_half(cursor, &mut place) {
         None => Ok(alone),
         Some(low) => Ok(Given {
             units: unicode_units(pair_of(high, low)),
@@ -224,23 +232,24 @@ fn unit_escape(bytes: &[u8], at: usize) -> Result<Given, Invalid>
 }
 
 // What begins with `u`.
-fn unicode_escape(bytes: &[u8], at: usize, in_template: bool) -> Result<Given, Invalid>
-    requires { Here bytes.now at 117 }
-    ensures { Behind in_template bytes.now at result }
+fn unicode_escape(cursor: Cursor<'_>, in_template: bool) -> Result<Given, Invalid>
+    requires { Here cursor.bytes.now cursor.place.at 117 }
+    ensures { Behind in_template cursor.entry.bytes.now cursor.entry.place.at result }
 {
-    if stands_at(bytes, at + 1, b'{') {
-        braces_escape(bytes, at, in_template)
+    if stands_at(ahead(cursor, 1), b'{') {
+        braces_escape(cursor, in_template)
     } else {
-        unit_escape(bytes, at)
+        unit_escape(cursor)
     }
 }
 
 // An octal digit, with a second one behind it, and a third if the first is 0 to 3. A zero has a decimal digit behind it.
-fn octal_escape(bytes: &[u8], at: usize, first: u8) -> Given
-    requires { (Digit octal_digits bytes.now at first) × ((first < 8) × ((first ≡ 0 → DecimalAt bytes.now (at + 1) true))) }
-    ensures { Behind false bytes.now at (Ok result) }
+fn octal_escape(cursor: Cursor<'_>, first: u8) -> Given
+    requires { (Digit octal_digits cursor.bytes.now cursor.place.at first) × ((first < 8) × ((first ≡ 0 → DecimalAt cursor.bytes.now (cursor.place.at + 1) true))) }
+    ensures { Behind false cursor.entry.bytes.now cursor.entry.place.at (Ok result) }
 {
-    let Some(second) = octal_at(bytes, at + 1) else {
+    let at = cursor.place();
+    let Some(second) = octal_at(ahead(cursor, 1)) else {
         return Given {
             units: Units::One(u16::from(first)),
             next: at + 1,
@@ -253,7 +262,7 @@ fn octal_escape(bytes: &[u8], at: usize, first: u8) -> Given
             next: at + 2,
         };
     }
-    match octal_at(bytes, at + 2) {
+    match octal_at(ahead(cursor, 2)) {
         None => Given {
             units: Units::One(two),
             next: at + 2,
@@ -266,33 +275,27 @@ fn octal_escape(bytes: &[u8], at: usize, first: u8) -> Given
 }
 
 // The escape that a character begins, behind which `next` stands.
-fn escape_of(
-    bytes: &[u8],
-    at: usize,
-    c: char,
-    next: usize,
-    in_template: bool,
-) -> Result<Given, Invalid>
-    requires { Stands bytes.now at c next }
-    ensures { Behind in_template bytes.now at result }
+fn escape_of(cursor: Cursor<'_>, c: char, next: usize, in_template: bool) -> Result<Given, Invalid>
+    requires { Stands cursor.bytes.now cursor.place.at c next }
+    ensures { Behind in_template cursor.entry.bytes.now cursor.entry.place.at result }
 {
-    match lead_of(c, decimal_at(bytes, next), in_template) {
+    match lead_of(c, decimal_at(moved(cursor, next)), in_template) {
         Lead::LineBreak => Ok(Given {
             units: Units::Nothing,
             next,
         }),
-        Lead::Return => Ok(return_escape(bytes, at)),
+        Lead::Return => Ok(return_escape(cursor)),
         Lead::Single(unit) => Ok(Given {
             units: Units::One(unit),
             next,
         }),
-        Lead::Hex => hex_escape(bytes, at),
-        Lead::Unicode => unicode_escape(bytes, at, in_template),
+        Lead::Hex => hex_escape(cursor),
+        Lead::Unicode => unicode_escape(cursor, in_template),
         Lead::Nul => Ok(Given {
             units: Units::One(0),
             next,
         }),
-        Lead::Octal(digit) => Ok(octal_escape(bytes, at, digit)),
+        Lead::Octal(digit) => Ok(octal_escape(cursor, digit)),
         Lead::ZeroDecimal => Err(Invalid { next: next + 1 }),
         Lead::Decimal => Err(Invalid { next }),
         Lead::Other => Ok(Given {
@@ -307,5 +310,5 @@ pub fn read_escape(cursor: Cursor<'_>, in_template: bool) -> Option<Result<Given
     ensures { EscapeRead in_template cursor.entry.bytes.now cursor.entry.place.at result }
 {
     let (c, next) = cursor.peek_char()?;
-    Some(escape_of(cursor.bytes(), cursor.place(), c, next, in_template))
+    Some(escape_of(cursor, c, next, in_template))
 }
