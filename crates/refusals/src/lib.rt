@@ -1,8 +1,11 @@
 // Why a call refuses: one enum for every layer, and the number of each case.
 #![tactic(auto)]
 
-ghost use Rattle.std.specs.Prelude.{◌≡◌};
+ghost use Rattle.std.specs.Prelude.{◌≡◌, Some, decimal};
 ghost use Rattle.refusals.specs.Numbers.{number_of};
+
+use std::error::Error;
+use std::fmt;
 
 #[derive(Clone, Copy, PartialEq, Eq, Debug)]
 pub enum Refusal {
@@ -35,6 +38,7 @@ pub enum Refusal {
 }
 
 impl Refusal {
+    // The number that callers are told; a match, since a case with a value has no number of its own.
     pub fn number(self) -> u8
         ensures { result ≡ number_of self }
     {
@@ -55,3 +59,14 @@ impl Refusal {
         }
     }
 }
+
+// A refusal is printed as its number.
+impl fmt::Display for Refusal {
+    ghost output = { λ refusal. Some (decimal (number_of refusal)) };
+
+    fn fmt<W: fmt::Write>(&self, f: &mut fmt::Formatter<W>) -> fmt::Result {
+        write!(f, "{}", self.number())
+    }
+}
+
+impl Error for Refusal {}

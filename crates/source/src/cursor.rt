@@ -4,7 +4,7 @@ ghost use Rattle.std.specs.Str.{IsCharBoundary};
 ghost use Rattle.source.specs.Fronts.{Begins};
 ghost use Rattle.source.specs.Texts.{WellFormed, CharAt, limit};
 
-use crate::fronts::after_crlf;
+use crate::fronts::behind;
 use crate::text::Text;
 use crate::trial::Place;
 
@@ -109,11 +109,9 @@ impl<'t> Cursor<'t> {
         ensures text { self.new.bytes.now ≡ self.old.bytes.now }
         ensures cases { MatchBool result (Begins 13 10 (drop self.old.place.at self.old.bytes.now) × (self.new.place.at ≡ self.old.place.at + 2)) ((Begins 13 10 (drop self.old.place.at self.old.bytes.now) → ⊥) × (self.new.place.at ≡ self.old.place.at)) }
     {
-        match after_crlf(self.rest()) {
-            Some(rest) => {
-                self.place = Place {
-                    at: self.bytes.len() - rest.len(),
-                };
+        match behind::<b'\r', b'\n'>(self.bytes, self.place.at) {
+            Some(behind) => {
+                self.place = Place { at: behind };
                 true
             }
             None => false,

@@ -2,7 +2,7 @@
 ghost use Rattle.std.specs.Prelude.{◌≡◌, ◌+◌, drop, MatchBool};
 ghost use Rattle.source.specs.Fronts.{Begins};
 
-use crate::fronts::behind_unicode_prefix;
+use crate::fronts::behind;
 
 // A place in some bytes, counted from 0.
 #[derive(Clone, Copy)]
@@ -64,7 +64,7 @@ impl<'t, 'p> Trial<'t, 'p> {
         ensures same { (self.new.saved ≡ self.old.saved) × (self.new.bytes.now ≡ self.old.bytes.now) }
         ensures cases { MatchBool result (Begins 92 117 (drop self.old.place.now.at self.old.bytes.now) × (self.new.place.now.at ≡ self.old.place.now.at + 2)) ((Begins 92 117 (drop self.old.place.now.at self.old.bytes.now) → ⊥) × (self.new.place.now.at ≡ self.old.place.now.at)) }
     {
-        match behind_unicode_prefix(self.bytes, self.place.at) {
+        match behind::<b'\\', b'u'>(self.bytes, self.place.at) {
             Some(behind) => {
                 *self.place = Place { at: behind };
                 true
