@@ -12,6 +12,7 @@ use slots::{Slot, SlotMap};
 use store::ValueStore;
 use tokens::Token;
 
+mod entry;
 mod life;
 mod perform;
 mod questions;
@@ -70,6 +71,7 @@ impl<'a> Session<'a> {
 }
 
 // Every call goes on with every life.
+#[tactic(auto, using(crate::proofs::Goes::goes_on))]
 pub fn calls_go_on() -> u8
     ensures { GoesOn }
 {
