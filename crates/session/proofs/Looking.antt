@@ -1,12 +1,14 @@
 -- From a look to what a scan replies and leaves. Assumes nothing.
-use Rattle.std.proofs.Common.{◌≡◌, ℕ, ◌+◌, ◌-◌, ◌<◌, ◌≤◌, Bool, true, false, not, ◌&&◌, List, [], length, get_or, is_some, Some, Ok, Err, Option, Result, sym, refl, ap, ◌∙◌, subst, inl, inr, arith}
+use Rattle.std.proofs.Common.{◌≡◌, ℕ, ◌+◌, ◌-◌, ◌<◌, ◌≤◌, Bool, true, false, not, ◌&&◌, List, [], length, get_or, is_some, Ok, Err, Option, Result, sym, refl, ap, ◌∙◌, subst, inl, inr, arith}
 use Rattle.std.proofs.lemmas.Bool.{cond-true, cond-false, true≢false}
+use Rattle.std.proofs.lemmas.List.{length-take}
 use Rattle.refusals.specs.declared.Refusal.{Refusal}
 use Rattle.refusals.specs.Numbers.{number_of}
 use Rattle.grammar.specs.Utf8.{utf8}
 use Rattle.grammar.specs.Reading as grammar
 use Rattle.grammar.specs.Reading.{Read, Reading}
 use Rattle.grammar.specs.Outcome.{mark_read, faults_read, units_read}
+use Rattle.tokens.specs.declared.Token.{Token}
 use Rattle.tokens.specs.Grammar.{recorded}
 use Rattle.pieces.specs.Pieces.{scan_of}
 use Rattle.look.specs.declared.answer.Scan.{Scan}
@@ -15,18 +17,18 @@ use Rattle.look.specs.declared.answer.Look.{Look}
 use Rattle.look.specs.Looked as looked
 use Rattle.faults.specs.declared.list.FaultList.{FaultList}
 use Rattle.faults.specs.Records as faulty
-use Rattle.faults.proofs.Rows.{row_length}
 use Rattle.slots.specs.declared.map.SlotMap.{SlotMap}
 use Rattle.slots.specs.Entries.{lookup}
 use Rattle.slots.specs.Views.{entries_of, room_of}
 use Rattle.store.specs.Held.{Held, weighed, dropped}
 use Rattle.ledger.specs.Calls.{scan, Reply, token, refused}
-use Rattle.ledger.specs.Ledger.{sort_of, of_string, in_strings, opens, token_of, needs_entry, needed_records, free_records}
+use Rattle.ledger.specs.Ledger.{sort_of, of_string, in_strings, opens, token_of, needs_entry, needed_records, free_records, free_slots}
 use Rattle.ledger.proofs.Values.{string_cooked}
 use Rattle.session.specs.declared.Session.{Session}
 use Rattle.session.specs.Views.{limits_of, ledger_of}
+use Rattle.session.specs.Replies.{token_reply}
 use Rattle.session.specs.Calls.{Called, LivesOn}
-use Rattle.session.specs.Scans.{sort_by, Reads, Recorded, Needed, needs, AsNumber, AsOption}
+use Rattle.session.specs.Scans.{sort_by, Reads, Recorded, Needed, needs, AsNumber, AsOption, Keeps}
 use Rattle.session.proofs.Goes.{goes_on}
 use Rattle.session.proofs.Scanning as scanning
 use Rattle.session.proofs.Scanning.{length_recorded}
@@ -53,12 +55,17 @@ sort_same Resumption grammar.template_scan e = absurd (true≢false (sym e))
 sort_same Resumption grammar.resumption e = refl
 
 -- what a call's contract asks
-pub record Owed (w : List ℕ → ℕ) (text : List ℕ) (k : Scan) (s : ℕ) (x : Session) (h : Held) (a : Reply) (x' : Session) (h' : Held) : Type 0 where
-  pub called : Called w text (scan (sort_by k) s) x h a x' h'
-  pub lives : LivesOn w text (scan (sort_by k) s) x h a x' h'
+abbrev pub Owed : (List ℕ → ℕ) → List ℕ → Scan → ℕ → Session → Held → Reply → Session → Held → Type 0
+Owed w text k s x h a x' h' = record { called : Called w text (scan (sort_by k) s) x h a x' h'; lives : LivesOn w text (scan (sort_by k) s) x h a x' h' }
 
 owed : (w : List ℕ → ℕ) (text : List ℕ) (k : Scan) (s : ℕ) (x : Session) (h : Held) (a : Reply) (x' : Session) (h' : Held) → Called w text (scan (sort_by k) s) x h a x' h' → Owed w text k s x h a x' h'
 owed w text k s x h a x' h' c = record { called = c; lives = goes_on w text (scan (sort_by k) s) x h a x' h' c }
+
+-- a refusal passed on
+pub passed_on :
+    (w : List ℕ → ℕ) (text : List ℕ) (k : Scan) (s : ℕ) (x : Session) (h : Held) (t : Result Token Refusal) (d e : Refusal) (x' : Session) (h' : Held) → t ≡ Err d → d ≡ e
+    → Owed w text k s x h (refused (number_of e)) x' h' → Owed w text k s x h (token_reply t) x' h'
+passed_on w text k s x h t d e x' h' is same = subst (λ (a : Reply). Owed w text k s x h a x' h') (sym (ap token_reply is ∙ ap (λ (z : Refusal). refused (number_of z)) same))
 
 module _ (w : List ℕ → ℕ) (nothing : w [] ≡ 0) (text : List ℕ) (k : Scan) (s : ℕ) (x : Session) (h : Held) where
   -- the look is refused
@@ -92,6 +99,11 @@ module _ (w : List ℕ → ℕ) (nothing : w [] ≡ 0) (text : List ℕ) (k : Sc
     unfolding r at
     needed = length_recorded (faults_read r) ∙ sym at.faulted
 
+    -- a string is always cooked
+    pub string_has : of_string (sort_by k) ≡ true → seen.cooked ≡ true
+    unfolding r at
+    string_has str = at.cooked ∙ ap is_some (string_cooked (utf8 text) r at.reading (ap of_string sort ∙ str)).1
+
     module _ (free : ℕ) (free_is : free ≡ faulty.room_of x.faults - length (faulty.faults_of x.faults)) where
       -- more faults than free records
       pub too_many : free < seen.faults → Owed w text k s x h (refused 9) x h
@@ -107,129 +119,85 @@ module _ (w : List ℕ → ℕ) (nothing : w [] ≡ 0) (text : List ℕ) (k : Sc
 
         few : length (faulty.faults_of x.faults) + length (recorded (faults_read r)) ≤ faulty.room_of x.faults
         unfolding r at
-        few = let e = needed in let b = row_length (faulty.records_of x.faults) x.faults.used in omega arith
+        few = let e = needed in let b = length-take x.faults.records.used (faulty.records_of x.faults) in let f = x.faults.records.fits in omega arith
 
-        module _ (f : FaultList) (rec : (q : Read) → Reads text s q → length (faulty.faults_of x.faults) + length (recorded (faults_read q)) ≤ faulty.room_of x.faults → Recorded x.faults (recorded (faults_read q)) f) where
-          recs : Recorded x.faults (recorded (faults_read r)) f
+        -- what was kept, by the table
+        module _ (light : weighed w h.values ≤ h.capacity) (x₁ : Session) (h' : Held) where
+          abbrev Kept : Bool → Result (Unit {0}) Refusal → Type 0
+          Kept b a = Keeps b w x h s seen.token.escaped (units_read r) a x₁ h'
+
+          abbrev FromKeep : Result (Unit {0}) Refusal → Type 0
+          FromKeep a = (q : Read) → Reads text s q → seen.cooked ≡ is_some (units_read q) → Keeps (of_string (sort_by k)) w x h s seen.token.escaped (units_read q) a x₁ h'
+
+          kept : (a : Result (Unit {0}) Refusal) → FromKeep a → Kept (in_strings r) a
           unfolding r at
-          recs = rec r (at.reading, at.from) few
+          kept a from = subst (λ (b : Bool). Kept b a) (sym (ap of_string sort)) (from r (at.reading, at.from) at.cooked)
 
-          -- no entry is needed
-          pub without : needs_entry (ledger_of x (dropped h)) r ≡ false → Owed w text k s x h (token seen.token) (record { strings = x.strings; templates = x.templates; faults = f }) h
+          needs_string : in_strings r ≡ true → needs seen.token.escaped x.strings s ≡ needs_entry (ledger_of x (dropped h)) r
           unfolding r at
-          without unneeded =
-              owed w text k s x h (token seen.token) (record { strings = x.strings; templates = x.templates; faults = f }) h
-              (scanning.goes_without w nothing text (sort_by k) s x h lt right r at.reading at.from sort records seen.token told f recs unneeded)
+          needs_string inside = (λ j. at.marked j && not (is_some (lookup (entries_of x.strings) (sym at.from j)))) ∙ ap (λ (b : Bool). mark_read r && not b) (sym (cond-true _ _ _ inside))
 
-          -- a string's value and entry, where they are needed
-          module _ (light : weighed w h.values ≤ h.capacity) (h' : Held) where
-            string_by :
-                (b : Bool) (us : List ℕ) (z : SlotMap ℕ) (a : Result (Unit {0}) Refusal) → k ≡ Str → a ≡ Ok tt → units_read r ≡ Some us → needs_entry (ledger_of x (dropped h)) r ≡ b → Needed b AsNumber w x.strings h s (Some us) a z h'
-                → Owed w text k s x h (token seen.token) (record { strings = z; templates = x.templates; faults = f }) h'
+          needs_template : in_strings r ≡ false → needs seen.token.escaped x.templates s ≡ needs_entry (ledger_of x (dropped h)) r
+          unfolding r at
+          needs_template outside = (λ j. at.marked j && not (is_some (lookup (entries_of x.templates) (sym at.from j)))) ∙ ap (λ (b : Bool). mark_read r && not b) (sym (cond-false _ _ _ outside))
+
+          module _ (f : FaultList) (rec : (q : Read) → Reads text s q → length (faulty.faults_of x₁.faults) + length (recorded (faults_read q)) ≤ faulty.room_of x₁.faults → Recorded x₁.faults (recorded (faults_read q)) f) where
+            abbrev Done : Type 0
+            Done = Called w text (scan (sort_by k) s) x h (token seen.token) (record { strings = x₁.strings; templates = x₁.templates; faults = f }) h'
+
+            recs : x₁.faults ≡ x.faults → Recorded x.faults (recorded (faults_read r)) f
             unfolding r at
-            string_by false us z a str ok is n st =
-                subst (λ (y : Held). Owed w text k s x h (token seen.token) (record { strings = z; templates = x.templates; faults = f }) y) (sym st.2)
-                (subst (λ (y : SlotMap ℕ). Owed w text k s x h (token seen.token) (record { strings = y; templates = x.templates; faults = f }) h) (sym st.1) (without n))
-            string_by true us z (Ok t) str ok is n (o, v, num, put, ent) =
-                owed w text k s x h (token seen.token) (record { strings = z; templates = x.templates; faults = f }) h'
-                (scanning.goes_string w nothing text (sort_by k) s x h lt right r at.reading at.from sort records seen.token told f recs n h' (Some us) o is light put v z (ap (λ y. of_string (sort_by y)) str) num ent)
-            string_by true us z (Err e) str ok is n p = let y : ◌≡◌ {A = ℕ} 0 1 = cc in absurd (omega arith)
+            recs e = subst (λ (y : FaultList). length (faulty.faults_of y) + length (recorded (faults_read r)) ≤ faulty.room_of y → Recorded y (recorded (faults_read r)) f) e (rec r (at.reading, at.from)) few
 
-            table_has : k ≡ Str → needs seen.token.escaped x.strings s ≡ needs_entry (ledger_of x (dropped h)) r
+            string_done : (b : Bool) → in_strings r ≡ true → x₁.templates ≡ x.templates → x₁.faults ≡ x.faults → needs_entry (ledger_of x (dropped h)) r ≡ b → Needed b AsNumber w x.strings h s (units_read r) (Ok tt) x₁.strings h' → Done
             unfolding r at
-            table_has str =
-                let inside : in_strings r ≡ true = ap of_string sort ∙ ap (λ y. of_string (sort_by y)) str in
-                (λ j. at.marked j && not (is_some (lookup (entries_of x.strings) (sym at.from j)))) ∙ ap (λ (b : Bool). mark_read r && not b) (sym (cond-true _ _ _ inside))
+            string_done false inside et ef n st = scanning.goes_without w nothing text (sort_by k) s x h lt right r at.reading at.from sort records seen.token told f (recs ef) n x₁.strings x₁.templates h' st.1 et st.2
+            string_done true inside et ef n (o, v, num, put, ent) =
+                scanning.goes_string w nothing text (sort_by k) s x h lt right r at.reading at.from sort records seen.token told f (recs ef) n h' o light put v x₁.strings x₁.templates inside num ent et
 
-            pub string_done :
-                (z : SlotMap ℕ) (a : Result (Unit {0}) Refusal) → k ≡ Str → a ≡ Ok tt
-                → ((q : Read) (us : List ℕ) → Reads text s q → units_read q ≡ Some us → Needed (needs seen.token.escaped x.strings s) AsNumber w x.strings h s (Some us) a z h')
-                → Owed w text k s x h (token seen.token) (record { strings = z; templates = x.templates; faults = f }) h'
+            template_done : (b : Bool) → in_strings r ≡ false → x₁.strings ≡ x.strings → x₁.faults ≡ x.faults → needs_entry (ledger_of x (dropped h)) r ≡ b → Needed b AsOption w x.templates h s (units_read r) (Ok tt) x₁.templates h' → Done
             unfolding r at
-            string_done z a str ok kept =
-                let inside : in_strings r ≡ true = ap of_string sort ∙ ap (λ y. of_string (sort_by y)) str in
-                let (us, is) = string_cooked (utf8 text) r at.reading inside in
-                string_by (needs_entry (ledger_of x (dropped h)) r) us z a str ok is refl
-                (subst (λ (b : Bool). Needed b AsNumber w x.strings h s (Some us) a z h') (table_has str) (kept r us (at.reading, at.from) is))
+            template_done false outside ez ef n st = scanning.goes_without w nothing text (sort_by k) s x h lt right r at.reading at.from sort records seen.token told f (recs ef) n x₁.strings x₁.templates h' ez st.1 st.2
+            template_done true outside ez ef n (o, v, num, put, ent) =
+                scanning.goes_template w nothing text (sort_by k) s x h lt right r at.reading at.from sort records seen.token told f (recs ef) n h' o light put v x₁.strings x₁.templates outside num ent ez
 
-            -- a template's value or none, and entry, where they are needed
-            template_by :
-                (b : Bool) (z : SlotMap (Option ℕ)) (a : Result (Unit {0}) Refusal) → of_string (sort_by k) ≡ false → a ≡ Ok tt → needs_entry (ledger_of x (dropped h)) r ≡ b
-                → Needed b AsOption w x.templates h s (units_read r) a z h' → Owed w text k s x h (token seen.token) (record { strings = x.strings; templates = z; faults = f }) h'
+            done_by : (b : Bool) → in_strings r ≡ b → Kept b (Ok tt) → Done
             unfolding r at
-            template_by false z a str ok n st =
-                subst (λ (y : Held). Owed w text k s x h (token seen.token) (record { strings = x.strings; templates = z; faults = f }) y) (sym st.2)
-                (subst (λ (y : SlotMap (Option ℕ)). Owed w text k s x h (token seen.token) (record { strings = x.strings; templates = y; faults = f }) h) (sym st.1) (without n))
-            template_by true z (Ok t) str ok n (o, v, num, put, ent) =
-                owed w text k s x h (token seen.token) (record { strings = x.strings; templates = z; faults = f }) h'
-                (scanning.goes_template w nothing text (sort_by k) s x h lt right r at.reading at.from sort records seen.token told f recs n h' (units_read r) o refl light put v z str num ent)
-            template_by true z (Err e) str ok n p = let y : ◌≡◌ {A = ℕ} 0 1 = cc in absurd (omega arith)
+            done_by true inside (needed, et, ef) = string_done _ inside et ef refl (subst (λ (b : Bool). Needed b AsNumber w x.strings h s (units_read r) (Ok tt) x₁.strings h') (needs_string inside) needed)
+            done_by false outside (needed, ez, ef) = template_done _ outside ez ef refl (subst (λ (b : Bool). Needed b AsOption w x.templates h s (units_read r) (Ok tt) x₁.templates h') (needs_template outside) needed)
 
-            pub template_done :
-                (z : SlotMap (Option ℕ)) (a : Result (Unit {0}) Refusal) → of_string (sort_by k) ≡ false → a ≡ Ok tt
-                → ((q : Read) → Reads text s q → seen.cooked ≡ is_some (units_read q) → Needed (needs seen.token.escaped x.templates s) AsOption w x.templates h s (units_read q) a z h')
-                → Owed w text k s x h (token seen.token) (record { strings = x.strings; templates = z; faults = f }) h'
+            pub done : (a : Result (Unit {0}) Refusal) → a ≡ Ok tt → FromKeep a → Owed w text k s x h (token seen.token) (record { strings = x₁.strings; templates = x₁.templates; faults = f }) h'
             unfolding r at
-            template_done z a str ok kept =
-                let outside : in_strings r ≡ false = ap of_string sort ∙ str in
-                let has : needs seen.token.escaped x.templates s ≡ needs_entry (ledger_of x (dropped h)) r =
-                (λ j. at.marked j && not (is_some (lookup (entries_of x.templates) (sym at.from j)))) ∙ ap (λ (b : Bool). mark_read r && not b) (sym (cond-false _ _ _ outside)) in
-                template_by (needs_entry (ledger_of x (dropped h)) r) z a str ok refl
-                (subst (λ (b : Bool). Needed b AsOption w x.templates h s (units_read r) a z h') has (kept r (at.reading, at.from) at.cooked))
+            done a ok from = owed w text k s x h (token seen.token) (record { strings = x₁.strings; templates = x₁.templates; faults = f }) h' (done_by _ refl (subst (Kept (in_strings r)) ok (kept a from)))
 
-        -- a string's value is not filed
-        module _ (light : weighed w h.values ≤ h.capacity) (h' : Held) where
-          string_not_by :
-              (b : Bool) (us : List ℕ) (z : SlotMap ℕ) (e : Refusal) → in_strings r ≡ true → units_read r ≡ Some us → needs_entry (ledger_of x (dropped h)) r ≡ b → Needed b AsNumber w x.strings h s (Some us) (Err e) z h'
-              → (z ≡ x.strings) × Owed w text k s x h (refused (number_of e)) x h'
-          unfolding r at
-          string_not_by false us z e inside is n st = let y : ◌≡◌ {A = ℕ} 0 1 = none st.0 in absurd (omega arith)
-            where
-              none : ◌≡◌ {A = Result (Unit {0}) Refusal} (Err e) (Ok tt) → ◌≡◌ {A = ℕ} 0 1
-              none q = cc
-          string_not_by true us z e inside is n files = (
-            files.0,
-            owed w text k s x h (refused (number_of e)) x h'
-                (scanning.not_filed w nothing text (sort_by k) s x h lt right r at.reading at.from sort records n (length (entries_of x.strings)) (room_of x.strings) (cond-true _ _ _ inside) AsNumber x.strings z e (Some us) h' is light refl refl files),
-          )
+          -- it was not
 
-          pub string_undone :
-              (z : SlotMap ℕ) (e : Refusal) → k ≡ Str
-              → ((q : Read) (us : List ℕ) → Reads text s q → units_read q ≡ Some us → Needed (needs seen.token.escaped x.strings s) AsNumber w x.strings h s (Some us) (Err e) z h')
-              → Owed w text k s x h (refused (number_of e)) (record { strings = z; templates = x.templates; faults = x.faults }) h'
-          unfolding r at
-          string_undone z e str kept =
-              let inside : in_strings r ≡ true = ap of_string sort ∙ ap (λ y. of_string (sort_by y)) str in
-              let (us, is) = string_cooked (utf8 text) r at.reading inside in
-              let has : needs seen.token.escaped x.strings s ≡ needs_entry (ledger_of x (dropped h)) r =
-              (λ j. at.marked j && not (is_some (lookup (entries_of x.strings) (sym at.from j)))) ∙ ap (λ (b : Bool). mark_read r && not b) (sym (cond-true _ _ _ inside)) in
-              let p = string_not_by (needs_entry (ledger_of x (dropped h)) r) us z e inside is refl
-              (subst (λ (b : Bool). Needed b AsNumber w x.strings h s (Some us) (Err e) z h') has (kept r us (at.reading, at.from) is)) in
-              subst (λ (y : SlotMap ℕ). Owed w text k s x h (refused (number_of e)) (record { strings = y; templates = x.templates; faults = x.faults }) h') (sym p.0) p.1
+          module _ (e : Refusal) where
+            abbrev Undone : Type 0
+            Undone = Called w text (scan (sort_by k) s) x h (refused (number_of e)) x h'
 
-          template_not_by :
-              (b : Bool) (z : SlotMap (Option ℕ)) (e : Refusal) → in_strings r ≡ false → needs_entry (ledger_of x (dropped h)) r ≡ b → Needed b AsOption w x.templates h s (units_read r) (Err e) z h'
-              → (z ≡ x.templates) × Owed w text k s x h (refused (number_of e)) x h'
-          unfolding r at
-          template_not_by false z e outside n st = let y : ◌≡◌ {A = ℕ} 0 1 = none st.0 in absurd (omega arith)
-            where
-              none : ◌≡◌ {A = Result (Unit {0}) Refusal} (Err e) (Ok tt) → ◌≡◌ {A = ℕ} 0 1
-              none q = cc
-          template_not_by true z e outside n files = (
-            files.0,
-            owed w text k s x h (refused (number_of e)) x h'
-                (scanning.not_filed w nothing text (sort_by k) s x h lt right r at.reading at.from sort records n (length (entries_of x.templates)) (room_of x.templates) (cond-false _ _ _ outside) AsOption x.templates z e (units_read r) h' refl light refl refl files),
-          )
+            undone_in :
+                {V : Type 0} (holds : Option ℕ → V → Type 0) (t t' : SlotMap V) (b : Bool) → free_slots (limits_of x h) (ledger_of x (dropped h)) r ≡ room_of t - length (entries_of t) → needs_entry (ledger_of x (dropped h)) r ≡ b
+                → Needed b holds w t h s (units_read r) (Err e) t' h' → (t' ≡ t) × Undone
+            unfolding r at
+            undone_in holds t t' false slots n st = absurd (no_ok st.0)
+              where
+                no_ok : ◌≡◌ {A = Result (Unit {0}) Refusal} (Err e) (Ok tt) → ⊥
+                no_ok q = cc
+            undone_in holds t t' true slots n files =
+                (files.0, scanning.not_filed w nothing text (sort_by k) s x h lt right r at.reading at.from sort records n (length (entries_of t)) (room_of t) slots holds t t' e (units_read r) h' refl light refl refl files)
 
-          pub template_undone :
-              (z : SlotMap (Option ℕ)) (e : Refusal) → of_string (sort_by k) ≡ false
-              → ((q : Read) → Reads text s q → seen.cooked ≡ is_some (units_read q) → Needed (needs seen.token.escaped x.templates s) AsOption w x.templates h s (units_read q) (Err e) z h')
-              → Owed w text k s x h (refused (number_of e)) (record { strings = x.strings; templates = z; faults = x.faults }) h'
-          unfolding r at
-          template_undone z e str kept =
-              let outside : in_strings r ≡ false = ap of_string sort ∙ str in
-              let has : needs seen.token.escaped x.templates s ≡ needs_entry (ledger_of x (dropped h)) r =
-              (λ j. at.marked j && not (is_some (lookup (entries_of x.templates) (sym at.from j)))) ∙ ap (λ (b : Bool). mark_read r && not b) (sym (cond-false _ _ _ outside)) in
-              let p = template_not_by (needs_entry (ledger_of x (dropped h)) r) z e outside refl
-              (subst (λ (b : Bool). Needed b AsOption w x.templates h s (units_read r) (Err e) z h') has (kept r (at.reading, at.from) at.cooked)) in
-              subst (λ (y : SlotMap (Option ℕ)). Owed w text k s x h (refused (number_of e)) (record { strings = x.strings; templates = y; faults = x.faults }) h') (sym p.0) p.1
+            undone_by : (b : Bool) → in_strings r ≡ b → Kept b (Err e) → (x₁ ≡ x) × Undone
+            unfolding r at
+            undone_by true inside (needed, et, ef) =
+                let p = undone_in AsNumber x.strings x₁.strings _ (cond-true _ _ _ inside) refl (subst (λ (b : Bool). Needed b AsNumber w x.strings h s (units_read r) (Err e) x₁.strings h') (needs_string inside) needed) in
+                (λ j. record { strings = p.0 j; templates = et j; faults = ef j }, p.1)
+            undone_by false outside (needed, ez, ef) =
+                let p = undone_in AsOption x.templates x₁.templates _ (cond-false _ _ _ outside) refl (subst (λ (b : Bool). Needed b AsOption w x.templates h s (units_read r) (Err e) x₁.templates h') (needs_template outside) needed) in
+                (λ j. record { strings = ez j; templates = p.0 j; faults = ef j }, p.1)
+
+            pub undone : (a : Result (Unit {0}) Refusal) → a ≡ Err e → FromKeep a → Owed w text k s x h (refused (number_of e)) x₁ h'
+            unfolding r at
+            undone a not from =
+                let p = undone_by _ refl (subst (Kept (in_strings r)) not (kept a from)) in
+                owed w text k s x h (refused (number_of e)) x₁ h' (subst (λ (y : Session). Called w text (scan (sort_by k) s) x h (refused (number_of e)) y h') (sym p.0) p.1)

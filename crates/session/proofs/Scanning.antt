@@ -16,7 +16,7 @@ use Rattle.slots.specs.declared.map.SlotMap.{SlotMap}
 use Rattle.slots.specs.Views.{entries_of, slots_of, room_of}
 use Rattle.store.specs.Held.{Held, weighed, holding, dropped, in_room, has_place}
 use Rattle.ledger.specs.Calls.{Sort, scan, Reply, token, refused}
-use Rattle.ledger.specs.Ledger.{Limits, Ledger, sort_of, of_string, in_strings, opens, token_of, needs_entry, needs_value, units, next_number, added, exceeded, Decided, Scanned}
+use Rattle.ledger.specs.Ledger.{Limits, Ledger, sort_of, in_strings, opens, token_of, needs_entry, needs_value, units, next_number, added, exceeded, Decided, Scanned}
 use Rattle.ledger.specs.Ledger.{needed_records, needed_slots, needed_places, needed_weight, free_records, free_slots, free_places, free_capacity}
 use Rattle.session.specs.declared.Session.{Session}
 use Rattle.session.specs.Views.{limits_of, ledger_of}
@@ -42,6 +42,18 @@ nothing_by b xs ys e = sym (append-nil xs) ∙ ap (λ z. xs ++ z) (sym (cond-fal
 
 these_by : {A : Type 0} (b : Bool) (xs ys : List A) → b ≡ true → xs ++ ys ≡ xs ++ cond b ys []
 these_by b xs ys e = ap (λ z. xs ++ z) (sym (cond-true b ys [] e))
+
+-- a map with no entry more, or with one
+record Grown {V : Type 0} (x x' : SlotMap V) : Type 0 where
+  pub room : room_of x' ≡ room_of x
+  pub past : drop 4096 (slots_of x') ≡ drop 4096 (slots_of x)
+  pub unwritten : entries_of x' ≡ entries_of x → slots_of x' ≡ slots_of x
+
+stays : {V : Type 0} (x x' : SlotMap V) → x' ≡ x → Grown x x'
+stays x x' e = record { room = ap room_of e; past = ap (λ z. drop 4096 (slots_of z)) e; unwritten = λ n. ap slots_of e }
+
+grows : {V : Type 0} (x x' : SlotMap V) (s : ℕ) (v : V) → Entered x s v x' → Grown x x'
+grows x x' s v ent = record { room = ent.room; past = ent.past; unwritten = λ e. absurd (one_not_none (entries_of x) (s, v) (sym ent.entries ∙ e)) }
 
 -- one more is free or not
 full_one : (n m : ℕ) → ltb n m ≡ false → ltb (m - n) 1 ≡ true
@@ -218,76 +230,66 @@ module _ (w : List ℕ → ℕ) (nothing : w [] ≡ 0) (text : List ℕ) (k : So
       put_places (Some us) o h' p = (ap (λ (z : Held). z.places) p.3, ap (λ (z : Held). z.capacity) p.3)
 
       module _ (t : Token) (told : t ≡ token_of r) (f : FaultList) (rec : Recorded x.faults (recorded (faults_read r)) f) where
-        records_kept_is : faulty.faults_of f ≡ faulty.faults_of x.faults → faulty.records_of f ≡ faulty.records_of x.faults
-        records_kept_is e = rec.unwritten (nothing_more (faulty.faults_of x.faults) (recorded (faults_read r)) (sym rec.faults ∙ e))
-
-        -- no entry is needed
-        pub goes_without : needs_entry l r ≡ false → Called w text (scan k s) x h (token t) (record { strings = x.strings; templates = x.templates; faults = f }) h
-        goes_without unneeded =
-            let value : needs_value l r ≡ false = ap (λ (b : Bool). b && is_some (units_read r)) unneeded in
-            let x' : Session = record { strings = x.strings; templates = x.templates; faults = f } in
-            let vs = nothing_by (needs_value l r) h.values (units (units_read r) ∷ []) value in
-            let es = nothing_by (needs_entry l r && in_strings r) (entries_of x.strings) ((r.from, length h.values) ∷ []) (ap (λ (b : Bool). b && in_strings r) unneeded) in
-            let ts = nothing_by (needs_entry l r && not (in_strings r)) (entries_of x.templates) ((r.from, next_number l (units_read r)) ∷ []) (ap (λ (b : Bool). b && not (in_strings r)) unneeded) in
-            let led : ledger_of x' (dropped h) ≡ added l r = λ j. record { values = vs j; draft = []; faults = rec.faults j; strings = es j; templates = ts j } in
+        -- nothing that is needed exceeds what is free
+        goes :
+            (z : SlotMap ℕ) (z' : SlotMap (Option ℕ)) (h' : Held) → exceeded w m l r ≡ None → Grown x.strings z → Grown x.templates z'
+            → h'.values ≡ (added l r).values → entries_of z ≡ (added l r).strings → entries_of z' ≡ (added l r).templates
+            → (h'.places ≡ h.places) × (h'.capacity ≡ h.capacity) → h'.draft ≡ cond (came_to_put (token t) h h') [] h.draft
+            → Called w text (scan k s) x h (token t) (record { strings = z; templates = z'; faults = f }) h'
+        goes z z' h' none strings templates vs es ts places shut =
+            let x' : Session = record { strings = z; templates = z'; faults = f } in
+            let led : ledger_of x' (dropped h') ≡ added l r = λ j. record { values = vs j; draft = []; faults = rec.faults j; strings = es j; templates = ts j } in
             record {
-              step = opened_so (token t) (ledger_of x' (dropped h)) None (none_exceeded unneeded) (ap token told, led);
-              limits = λ j. record { records = rec.room j; string_slots = room_of x.strings; template_slots = room_of x.templates; places = h.places; capacity = h.capacity };
-              left_open = ap (λ (b : Bool). cond b [] h.draft) (sym (same_length (length h.values)));
-              strings_kept = λ e. refl;
-              templates_kept = λ e. refl;
-              records_kept = records_kept_is;
-              beyond = λ j. record { strings = drop 4096 (slots_of x.strings); templates = drop 4096 (slots_of x.templates); records = rec.past j };
+              step = opened_so (token t) (ledger_of x' (dropped h')) None none (ap token told, led);
+              limits = λ j. record { records = rec.room j; string_slots = strings.room j; template_slots = templates.room j; places = places.0 j; capacity = places.1 j };
+              left_open = shut;
+              strings_kept = strings.unwritten;
+              templates_kept = templates.unwritten;
+              records_kept = λ e. rec.unwritten (nothing_more (faulty.faults_of x.faults) (recorded (faults_read r)) (sym rec.faults ∙ e));
+              beyond = λ j. record { strings = strings.past j; templates = templates.past j; records = rec.past j };
             }
 
-        module _ (needs : needs_entry l r ≡ true) (h' : Held) (u : Option (List ℕ)) (o : Option ℕ) (is : units_read r ≡ u) (light : weighed w h.values ≤ h.capacity) (put : Put w h u o h') where
+        -- no entry is needed
+        pub goes_without :
+            needs_entry l r ≡ false → (z : SlotMap ℕ) (z' : SlotMap (Option ℕ)) (h' : Held) → z ≡ x.strings → z' ≡ x.templates → h' ≡ h
+            → Called w text (scan k s) x h (token t) (record { strings = z; templates = z'; faults = f }) h'
+        goes_without unneeded z z' h' ez et eh =
+            goes z z' h' (none_exceeded unneeded) (stays _ _ ez) (stays _ _ et)
+            (ap (λ (y : Held). y.values) eh ∙ nothing_by (needs_value l r) h.values (units (units_read r) ∷ []) (ap (λ (b : Bool). b && is_some (units_read r)) unneeded))
+            (ap entries_of ez ∙ nothing_by (needs_entry l r && in_strings r) (entries_of x.strings) ((r.from, length h.values) ∷ []) (ap (λ (b : Bool). b && in_strings r) unneeded))
+            (ap entries_of et ∙ nothing_by (needs_entry l r && not (in_strings r)) (entries_of x.templates) ((r.from, next_number l (units_read r)) ∷ []) (ap (λ (b : Bool). b && not (in_strings r)) unneeded))
+            (put_places None None h' (refl, eh)) (put_open t None None h' (refl, eh))
+
+        module _ (needs : needs_entry l r ≡ true) (h' : Held) (o : Option ℕ) (light : weighed w h.values ≤ h.capacity) (put : Put w h (units_read r) o h') where
+          number : o ≡ next_number l (units_read r)
+          number = put_number (units_read r) o h' refl put
+
           -- a string's entry
-          pub goes_string : (n : ℕ) (z : SlotMap ℕ) → of_string k ≡ true → o ≡ Some n → Entered x.strings s n z → Called w text (scan k s) x h (token t) (record { strings = z; templates = x.templates; faults = f }) h'
-          goes_string n z str num ent =
-              let inside : in_strings r ≡ true = ap of_string sort ∙ str in
-              let x' : Session = record { strings = z; templates = x.templates; faults = f } in
-              let number : n ≡ length h.values = string_number n (sym num ∙ put_number u o h' is put) in
-              let es = ent.entries ∙ (λ i. entries_of x.strings ++ ((sym from i, number i) ∷ []))
-              ∙ these_by (needs_entry l r && in_strings r) (entries_of x.strings) ((r.from, length h.values) ∷ []) (ap (λ (b : Bool). b && in_strings r) needs ∙ inside) in
-              let ts = nothing_by (needs_entry l r && not (in_strings r)) (entries_of x.templates) ((r.from, next_number l (units_read r)) ∷ []) (ap (λ (b : Bool). b && not (in_strings r)) needs ∙ ap not inside) in
-              let vs = values_are u o h' needs is put in
-              let led : ledger_of x' (dropped h') ≡ added l r = λ j. record { values = vs j; draft = []; faults = rec.faults j; strings = es j; templates = ts j } in
-              let places = put_places u o h' put in
-              record {
-                step = opened_so (token t) (ledger_of x' (dropped h')) None (put_fits needs (length (entries_of x.strings)) (room_of x.strings) (cond-true _ _ _ inside) u o h' is light ent.free put) (ap token told, led);
-                limits = λ j. record { records = rec.room j; string_slots = ent.room j; template_slots = room_of x.templates; places = places.0 j; capacity = places.1 j };
-                left_open = put_open t u o h' put;
-                strings_kept = λ e. absurd (one_not_none (entries_of x.strings) (s, n) (sym ent.entries ∙ e));
-                templates_kept = λ e. refl;
-                records_kept = records_kept_is;
-                beyond = λ j. record { strings = ent.past j; templates = drop 4096 (slots_of x.templates); records = rec.past j };
-              }
+          pub goes_string :
+              (n : ℕ) (z : SlotMap ℕ) (z' : SlotMap (Option ℕ)) → in_strings r ≡ true → o ≡ Some n → Entered x.strings s n z → z' ≡ x.templates
+              → Called w text (scan k s) x h (token t) (record { strings = z; templates = z'; faults = f }) h'
+          unfolding number
+          goes_string n z z' inside num ent et =
+              goes z z' h' (put_fits needs (length (entries_of x.strings)) (room_of x.strings) (cond-true _ _ _ inside) (units_read r) o h' refl light ent.free put) (grows _ _ _ _ ent) (stays _ _ et)
+              (values_are (units_read r) o h' needs refl put)
+              (ent.entries ∙ (λ i. entries_of x.strings ++ ((sym from i, numbered (units_read r) n (sym num ∙ number) i) ∷ []))
+              ∙ these_by (needs_entry l r && in_strings r) (entries_of x.strings) ((r.from, length h.values) ∷ []) (ap (λ (b : Bool). b && in_strings r) needs ∙ inside))
+              (ap entries_of et ∙ nothing_by (needs_entry l r && not (in_strings r)) (entries_of x.templates) ((r.from, next_number l (units_read r)) ∷ []) (ap (λ (b : Bool). b && not (in_strings r)) needs ∙ ap not inside))
+              (put_places (units_read r) o h' put) (put_open t (units_read r) o h' put)
             where
-              string_number : (n : ℕ) → Some n ≡ next_number l (units_read r) → n ≡ length h.values
-              string_number n e = by (units_read r) e
-                where
-                  by : (v : Option (List ℕ)) → Some n ≡ next_number l v → n ≡ length h.values
-                  by None e = let y : ◌≡◌ {A = ℕ} 0 1 = cc in absurd (omega arith)
-                  by (Some us) e = cc
+              numbered : (v : Option (List ℕ)) (n : ℕ) → Some n ≡ next_number l v → n ≡ length h.values
+              numbered None n e = absurd cc
+              numbered (Some us) n e = cc
 
           -- a template's entry
-          pub goes_template : (v : Option ℕ) (z : SlotMap (Option ℕ)) → of_string k ≡ false → o ≡ v → Entered x.templates s v z → Called w text (scan k s) x h (token t) (record { strings = x.strings; templates = z; faults = f }) h'
-          goes_template v z str num ent =
-              let outside : in_strings r ≡ false = ap of_string sort ∙ str in
-              let x' : Session = record { strings = x.strings; templates = z; faults = f } in
-              let number : v ≡ next_number l (units_read r) = sym num ∙ put_number u o h' is put in
-              let es = nothing_by (needs_entry l r && in_strings r) (entries_of x.strings) ((r.from, length h.values) ∷ []) (ap (λ (b : Bool). b && in_strings r) needs ∙ outside) in
-              let ts = ent.entries ∙ (λ i. entries_of x.templates ++ ((sym from i, number i) ∷ []))
-              ∙ these_by (needs_entry l r && not (in_strings r)) (entries_of x.templates) ((r.from, next_number l (units_read r)) ∷ []) (ap (λ (b : Bool). b && not (in_strings r)) needs ∙ ap not outside) in
-              let vs = values_are u o h' needs is put in
-              let led : ledger_of x' (dropped h') ≡ added l r = λ j. record { values = vs j; draft = []; faults = rec.faults j; strings = es j; templates = ts j } in
-              let places = put_places u o h' put in
-              record {
-                step = opened_so (token t) (ledger_of x' (dropped h')) None (put_fits needs (length (entries_of x.templates)) (room_of x.templates) (cond-false _ _ _ outside) u o h' is light ent.free put) (ap token told, led);
-                limits = λ j. record { records = rec.room j; string_slots = room_of x.strings; template_slots = ent.room j; places = places.0 j; capacity = places.1 j };
-                left_open = put_open t u o h' put;
-                strings_kept = λ e. refl;
-                templates_kept = λ e. absurd (one_not_none (entries_of x.templates) (s, v) (sym ent.entries ∙ e));
-                records_kept = records_kept_is;
-                beyond = λ j. record { strings = drop 4096 (slots_of x.strings); templates = ent.past j; records = rec.past j };
-              }
+          pub goes_template :
+              (v : Option ℕ) (z : SlotMap ℕ) (z' : SlotMap (Option ℕ)) → in_strings r ≡ false → o ≡ v → Entered x.templates s v z' → z ≡ x.strings
+              → Called w text (scan k s) x h (token t) (record { strings = z; templates = z'; faults = f }) h'
+          unfolding number
+          goes_template v z z' outside num ent ez =
+              goes z z' h' (put_fits needs (length (entries_of x.templates)) (room_of x.templates) (cond-false _ _ _ outside) (units_read r) o h' refl light ent.free put) (stays _ _ ez) (grows _ _ _ _ ent)
+              (values_are (units_read r) o h' needs refl put)
+              (ap entries_of ez ∙ nothing_by (needs_entry l r && in_strings r) (entries_of x.strings) ((r.from, length h.values) ∷ []) (ap (λ (b : Bool). b && in_strings r) needs ∙ outside))
+              (ent.entries ∙ (λ i. entries_of x.templates ++ ((sym from i, (sym num ∙ number) i) ∷ []))
+              ∙ these_by (needs_entry l r && not (in_strings r)) (entries_of x.templates) ((r.from, next_number l (units_read r)) ∷ []) (ap (λ (b : Bool). b && not (in_strings r)) needs ∙ ap not outside))
+              (put_places (units_read r) o h' put) (put_open t (units_read r) o h' put)

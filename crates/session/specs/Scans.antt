@@ -16,6 +16,7 @@ use Rattle.slots.specs.Entries.{has_slot, lookup}
 use Rattle.slots.specs.Views as slotted
 use Rattle.store.specs.Held.{Held, holding, dropped, closed, in_room, has_place, kept, keep_told}
 use Rattle.ledger.specs.Calls.{Sort, string, template, resumption}
+use Rattle.session.specs.declared.Session.{Session}
 
 abbrev pub sort_by : Scan → Sort
 sort_by Str = string
@@ -83,3 +84,8 @@ AsNumber o n = o ≡ Some n
 
 abbrev pub AsOption : Option ℕ → Option ℕ → Type 0
 AsOption o p = o ≡ p
+
+-- a literal's value, or none, is kept in the table of strings or in that of templates, where an entry is needed; the other table and the faults stay
+abbrev pub Keeps : Bool → (List ℕ → ℕ) → Session → Held → ℕ → Bool → Option (List ℕ) → Result (Unit {0}) Refusal → Session → Held → Type 0
+Keeps true w x h s escaped u a x' h' = Needed (needs escaped x.strings s) AsNumber w x.strings h s u a x'.strings h' × (x'.templates ≡ x.templates) × (x'.faults ≡ x.faults)
+Keeps false w x h s escaped u a x' h' = Needed (needs escaped x.templates s) AsOption w x.templates h s u a x'.templates h' × (x'.strings ≡ x.strings) × (x'.faults ≡ x.faults)

@@ -12,6 +12,7 @@ use slots::{Slot, SlotMap};
 use store::ValueStore;
 use tokens::Token;
 
+mod entry;
 mod life;
 mod perform;
 mod questions;

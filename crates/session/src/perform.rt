@@ -1,16 +1,12 @@
 // One call, whichever it is.
-ghost use Rattle.session.specs.Replies.{token_reply};
 ghost use Rattle.session.specs.Calls.{Called, LivesOn};
 ghost use Rattle.session.specs.Performs.{asked, reply};
-ghost use Rattle.session.specs.Scans.{sort_by, bytes_of};
-ghost use Rattle.ledger.specs.Calls as ask;
+ghost use Rattle.session.specs.Scans.{bytes_of};
 
 use super::{Answer, Call, Session};
-use look::answer::Scan;
 use refusals::Refusal;
 use source::text::Text;
 use store::ValueStore;
-use tokens::Token;
 
 impl<'a> Session<'a> {
     // Performs one call.
@@ -29,24 +25,6 @@ impl<'a> Session<'a> {
             Call::Unit(start, index) => self.unit(store, start, index).map(Answer::Unit),
             Call::FaultCount => Ok(Answer::Count(self.fault_count(store))),
             Call::FaultAt(index) => self.fault_at(store, index).map(Answer::Fault),
-        }
-    }
-
-    // Scans from a start.
-    pub fn scan<S: ValueStore>(
-        &mut self,
-        store: &mut S,
-        text: Text<'_>,
-        start: usize,
-        scan: Scan,
-    ) -> Result<Token, Refusal>
-        ensures called { Called S.ValueStore.weight (bytes_of text.entry) (ask.scan (sort_by scan) start) self.old (S.ValueStore.held store.old) (token_reply result) self.new (S.ValueStore.held store.new) }
-        ensures lives { LivesOn S.ValueStore.weight (bytes_of text.entry) (ask.scan (sort_by scan) start) self.old (S.ValueStore.held store.old) (token_reply result) self.new (S.ValueStore.held store.new) }
-    {
-        match scan {
-            Scan::Str => self.scan_string(store, text, start),
-            Scan::Template => self.scan_template(store, text, start),
-            Scan::Resumption => self.resume(store, text, start),
         }
     }
 }

@@ -1,5 +1,5 @@
 // The scans: a look, then tests, and only then anything is put, entered or recorded.
-ghost use Rattle.std.specs.Prelude.{◌≡◌, ℕ, ◌+◌, ◌-◌, ◌<◌, ◌≤◌, true, false, ◌&&◌, List, length, is_some, if◌then◌else◌, Some, None, Ok, Err, slice_index};
+ghost use Rattle.std.specs.Prelude.{◌≡◌, ℕ, ◌+◌, ◌-◌, ◌<◌, ◌≤◌, true, false, ◌&&◌, length, is_some, if◌then◌else◌, Some, None, Ok, Err, slice_index};
 ghost use Rattle.grammar.specs.Reading.{Read};
 ghost use Rattle.grammar.specs.Outcome.{units_read, faults_read};
 ghost use Rattle.tokens.specs.Grammar.{recorded};
@@ -13,11 +13,12 @@ ghost use Rattle.ledger.specs.Calls as ask;
 ghost use Rattle.ledger.specs.Ledger.{of_string};
 ghost use Rattle.session.specs.Replies.{token_reply};
 ghost use Rattle.session.specs.Calls.{Called, LivesOn};
-ghost use Rattle.session.specs.Scans.{sort_by, bytes_of, Reads, Stores, Recorded, Files, Needed, needs, AsNumber, AsOption};
+ghost use Rattle.session.specs.Scans.{sort_by, bytes_of, Reads, Stores, Recorded, Files, Needed, needs, Keeps};
 
 use super::Session;
+use super::entry::Entry;
 use faults::FaultList;
-use look::answer::Scan;
+use look::answer::{Look, Scan};
 use look::faulty::FaultStep;
 use look::look::look;
 use look::readers::{faults_at, units_at};
@@ -39,20 +40,7 @@ impl<'a> Session<'a> {
         ensures called { Called S.ValueStore.weight (bytes_of text.entry) (ask.scan ask.string start) self.old (S.ValueStore.held store.old) (token_reply result) self.new (S.ValueStore.held store.new) }
         ensures lives { LivesOn S.ValueStore.weight (bytes_of text.entry) (ask.scan ask.string start) self.old (S.ValueStore.held store.old) (token_reply result) self.new (S.ValueStore.held store.new) }
     {
-        let seen = match look(text, start, Scan::Str) {
-            Ok(seen) => seen,
-            Err(refusal) => return Err(refusal),
-        };
-        if seen.faults > free_records(&self.faults) {
-            return Err(Refusal::NoRecord);
-        }
-        match keep_string(&mut self.strings, store, text, start, seen.token.escaped) {
-            Ok(()) => {
-                record(&mut self.faults, text, start, Scan::Str);
-                Ok(seen.token)
-            }
-            Err(refusal) => Err(refusal),
-        }
+        self.scan(store, text, start, Scan::Str)
     }
 
     // Scans a template from its backtick on.
@@ -65,7 +53,7 @@ impl<'a> Session<'a> {
         ensures called { Called S.ValueStore.weight (bytes_of text.entry) (ask.scan ask.template start) self.old (S.ValueStore.held store.old) (token_reply result) self.new (S.ValueStore.held store.new) }
         ensures lives { LivesOn S.ValueStore.weight (bytes_of text.entry) (ask.scan ask.template start) self.old (S.ValueStore.held store.old) (token_reply result) self.new (S.ValueStore.held store.new) }
     {
-        self.scan_part(store, text, start, Scan::Template)
+        self.scan(store, text, start, Scan::Template)
     }
 
     // Scans a template on from the brace behind a substitution.
@@ -78,90 +66,91 @@ impl<'a> Session<'a> {
         ensures called { Called S.ValueStore.weight (bytes_of text.entry) (ask.scan ask.resumption start) self.old (S.ValueStore.held store.old) (token_reply result) self.new (S.ValueStore.held store.new) }
         ensures lives { LivesOn S.ValueStore.weight (bytes_of text.entry) (ask.scan ask.resumption start) self.old (S.ValueStore.held store.old) (token_reply result) self.new (S.ValueStore.held store.new) }
     {
-        self.scan_part(store, text, start, Scan::Resumption)
+        self.scan(store, text, start, Scan::Resumption)
     }
 
-    // Scans a part of a template.
-    fn scan_part<S: ValueStore>(
+    // Scans from a start.
+    pub fn scan<S: ValueStore>(
         &mut self,
         store: &mut S,
         text: Text<'_>,
         start: usize,
         scan: Scan,
     ) -> Result<Token, Refusal>
-        requires { of_string (sort_by scan) ≡ false }
         ensures called { Called S.ValueStore.weight (bytes_of text.entry) (ask.scan (sort_by scan) start) self.old (S.ValueStore.held store.old) (token_reply result) self.new (S.ValueStore.held store.new) }
         ensures lives { LivesOn S.ValueStore.weight (bytes_of text.entry) (ask.scan (sort_by scan) start) self.old (S.ValueStore.held store.old) (token_reply result) self.new (S.ValueStore.held store.new) }
     {
-        let part = match look(text, start, scan) {
-            Ok(part) => part,
-            Err(refusal) => return Err(refusal),
-        };
-        if part.faults > free_records(&self.faults) {
+        let seen = look(text, start, scan)?;
+        if seen.faults > free_records(&self.faults) {
             return Err(Refusal::NoRecord);
         }
-        match keep_template(
-            &mut self.templates,
-            store,
-            text,
-            start,
-            scan,
-            part.token.escaped,
-            part.cooked,
-        ) {
-            Ok(()) => {
-                record(&mut self.faults, text, start, scan);
-                Ok(part.token)
+        self.keep(store, text, start, scan, seen)?;
+        record(&mut self.faults, text, start, scan);
+        Ok(seen.token)
+    }
+
+    // Files a literal's value in the table of its sort, or that none is cooked, if it is escaped and its start has no entry there.
+    fn keep<S: ValueStore>(
+        &mut self,
+        store: &mut S,
+        text: Text<'_>,
+        start: usize,
+        scan: Scan,
+        seen: Look,
+    ) -> Result<(), Refusal>
+        requires opened { (start < length (bytes_of text)) × (opens scan (slice_index (bytes_of text) start) ≡ true) }
+        requires cooked { of_string (sort_by scan) ≡ true → seen.cooked ≡ true }
+        ensures { (read : Read) → Reads (bytes_of text.entry) start read → seen.cooked ≡ is_some (units_read read) → Keeps (of_string (sort_by scan)) S.ValueStore.weight self.old (S.ValueStore.held store.old) start seen.token.escaped (units_read read) result self.new (S.ValueStore.held store.new) }
+    {
+        match scan {
+            Scan::Str => keep(&mut self.strings, store, text, start, scan, seen),
+            Scan::Template | Scan::Resumption => {
+                keep(&mut self.templates, store, text, start, scan, seen)
             }
-            Err(refusal) => Err(refusal),
         }
     }
 }
 
-// Files a template part's value, or that none is cooked, if it is escaped and its start has no entry.
-fn keep_template<S: ValueStore>(
-    templates: &mut SlotMap<'_, Option<usize>>,
+// Files a literal's value in a table, or that none is cooked, if it is escaped and its start has no entry.
+fn keep<S: ValueStore, V: Entry>(
+    entries: &mut SlotMap<'_, V>,
     store: &mut S,
     text: Text<'_>,
     start: usize,
     scan: Scan,
-    escaped: bool,
-    cooked: bool,
+    seen: Look,
 ) -> Result<(), Refusal>
-    requires { (start < length (bytes_of text)) × (opens scan (slice_index (bytes_of text) start) ≡ true) }
-    ensures { (read : Read) → Reads (bytes_of text.entry) start read → cooked ≡ is_some (units_read read) → Needed (needs escaped templates.old start) AsOption S.ValueStore.weight templates.old (S.ValueStore.held store.old) start (units_read read) result templates.new (S.ValueStore.held store.new) }
+    requires opened { (start < length (bytes_of text)) × (opens scan (slice_index (bytes_of text) start) ≡ true) }
+    requires cooked { V.always ≡ true → seen.cooked ≡ true }
+    ensures { (read : Read) → Reads (bytes_of text.entry) start read → seen.cooked ≡ is_some (units_read read) → Needed (needs seen.token.escaped entries.old start) V.holds S.ValueStore.weight entries.old (S.ValueStore.held store.old) start (units_read read) result entries.new (S.ValueStore.held store.new) }
 {
-    if !escaped {
+    if !seen.token.escaped || entries.find(start).is_some() {
         return Ok(());
     }
-    if templates.find(start).is_some() {
-        return Ok(());
-    }
-    file_template(templates, store, text, start, scan, cooked)
+    file(entries, store, text, start, scan, seen.cooked)
 }
 
-// Stores a template part's units, if any is cooked, and enters the value's number or none.
-fn file_template<S: ValueStore>(
-    templates: &mut SlotMap<'_, Option<usize>>,
+// Stores a literal's units, if a value is cooked, and enters the value's number or none, if there are a slot, a place and capacity.
+fn file<S: ValueStore, V: Entry>(
+    entries: &mut SlotMap<'_, V>,
     store: &mut S,
     text: Text<'_>,
     start: usize,
     scan: Scan,
     cooked: bool,
 ) -> Result<(), Refusal>
-    requires { (start < length (bytes_of text)) × (opens scan (slice_index (bytes_of text) start) ≡ true) }
-    ensures { (read : Read) → Reads (bytes_of text.entry) start read → cooked ≡ is_some (units_read read) → is_some (lookup (entries_of templates.old) start) ≡ false → Files AsOption S.ValueStore.weight templates.old (S.ValueStore.held store.old) start (units_read read) result templates.new (S.ValueStore.held store.new) }
+    requires opened { (start < length (bytes_of text)) × (opens scan (slice_index (bytes_of text) start) ≡ true) }
+    requires cooked { V.always ≡ true → cooked ≡ true }
+    ensures { (read : Read) → Reads (bytes_of text.entry) start read → cooked ≡ is_some (units_read read) → is_some (lookup (entries_of entries.old) start) ≡ false → Files V.holds S.ValueStore.weight entries.old (S.ValueStore.held store.old) start (units_read read) result entries.new (S.ValueStore.held store.new) }
 {
-    if templates.count() >= templates.room() {
+    if entries.count() >= entries.room() {
         return Err(Refusal::NoSlot);
     }
     if !cooked {
-        return templates.insert(start, None);
+        return entries.insert(start, V::of(None));
     }
-    match put_units(store, text, start, scan) {
-        Ok(number) => templates.insert(start, Some(number)),
-        Err(refusal) => Err(refusal),
-    }
+    let number = put_units(store, text, start, scan)?;
+    entries.insert(start, V::of(Some(number)))
 }
 
 // How many records are free.
@@ -169,45 +158,6 @@ fn free_records(faults: &FaultList<'_>) -> usize
     ensures { result ≡ room_of faults.now - length (faults_of faults.now) }
 {
     faults.room().saturating_sub(faults.count())
-}
-
-// Files a string's value, if it is escaped and its start has no entry.
-fn keep_string<S: ValueStore>(
-    strings: &mut SlotMap<'_, usize>,
-    store: &mut S,
-    text: Text<'_>,
-    start: usize,
-    escaped: bool,
-) -> Result<(), Refusal>
-    requires { (start < length (bytes_of text)) × (opens Scan.Str (slice_index (bytes_of text) start) ≡ true) }
-    ensures { (read : Read) (us : List ℕ) → Reads (bytes_of text.entry) start read → units_read read ≡ Some us → Needed (needs escaped strings.old start) AsNumber S.ValueStore.weight strings.old (S.ValueStore.held store.old) start (Some us) result strings.new (S.ValueStore.held store.new) }
-{
-    if !escaped {
-        return Ok(());
-    }
-    if strings.find(start).is_some() {
-        return Ok(());
-    }
-    file_string(strings, store, text, start)
-}
-
-// Stores a string's units and enters the value's number, if there are a slot, a place and capacity.
-fn file_string<S: ValueStore>(
-    strings: &mut SlotMap<'_, usize>,
-    store: &mut S,
-    text: Text<'_>,
-    start: usize,
-) -> Result<(), Refusal>
-    requires { (start < length (bytes_of text)) × (opens Scan.Str (slice_index (bytes_of text) start) ≡ true) }
-    ensures { (read : Read) (us : List ℕ) → Reads (bytes_of text.entry) start read → units_read read ≡ Some us → is_some (lookup (entries_of strings.old) start) ≡ false → Files AsNumber S.ValueStore.weight strings.old (S.ValueStore.held store.old) start (Some us) result strings.new (S.ValueStore.held store.new) }
-{
-    if strings.count() >= strings.room() {
-        return Err(Refusal::NoSlot);
-    }
-    match put_units(store, text, start, Scan::Str) {
-        Ok(number) => strings.insert(start, number),
-        Err(refusal) => Err(refusal),
-    }
 }
 
 // Puts a literal's units into the store's open value and finishes it. What a stranger left open is dropped first, unless there is no place for one more value;

@@ -1,7 +1,6 @@
-use Rattle.std.proofs.Common.{length, sym, ap, ◌∙◌}
-use Rattle.std.proofs.lemmas.List.{length-map}
-use Rattle.slots.specs.Views.{told}
+use Rattle.slots.specs.Views.{entries_of}
+use Rattle.slots.proofs.Distincts.{one_a_start}
 use Rattle.slots.proofs.map.SlotMap.count.Goals as goal
 
-pub returns : goal.returns
-returns g c = ap length c.taken.ensures ∙ sym (length-map _ told)
+pub returns-clause-unique : goal.returns-clause-unique
+returns-clause-unique g c = one_a_start (entries_of c.args.self.now) c.args.self.now.unique
