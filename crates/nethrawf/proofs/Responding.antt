@@ -1,10 +1,13 @@
 -- Requests one after another. Assumes nothing.
-use Rattle.std.proofs.Common.{◌≡◌, ℕ, ◌+◌, ◌<◌, min, List, [], ◌∷◌, ◌++◌, map, length, get_or, take, drop, set, Some, None, sym, refl, ap, ◌∙◌, subst, append_assoc, append-nil, arith, length-append}
+use Rattle.std.proofs.Common.{◌≡◌, ℕ, ◌+◌, ◌<◌, min, List, [], ◌∷◌, ◌++◌, map, length, get_or, take, drop, set, Some, None, Ok, Err, Result, IsErrAnd, sym, refl, ap, ◌∙◌, subst, append_assoc, append-nil, arith, length-append}
 use Rattle.std.proofs.lemmas.List.{take_more, take_more_set, drop-set-lt, length-take-le}
 use Rattle.store.specs.Held.{Held}
 use Rattle.ledger.specs.Calls as ask
 use Rattle.session.specs.declared.Session.{Session}
 use Rattle.session.specs.declared.Call.{Call}
+use Rattle.refusals.specs.declared.Refusal.{Refusal}
+use Rattle.refusals.specs.declared.Refusal.TheVariants.{MalformedCommand}
+use Rattle.refusals.specs.Numbers.{number_of}
 use Rattle.session.specs.declared.Answer.{Answer}
 use Rattle.ledger.specs.Ledger.{Limits}
 use Rattle.ledger.specs.Life.{Lived}
@@ -15,28 +18,24 @@ use Rattle.session.proofs.Carrying.{still, joined, as_told}
 use Rattle.nethrawf.specs.declared.forms.Request.{Request}
 use Rattle.nethrawf.specs.declared.forms.Response.{Response}
 use Rattle.nethrawf.specs.Numbers.{asks, written}
-use Rattle.nethrawf.specs.Lives.{exchanged, exchanges, MalformedRefused, Responded, Served}
+use Rattle.nethrawf.specs.Lives.{exchanged, exchanges, MalformedRefused, Performed, Served}
 use Rattle.nethrawf.specs.Exports.{LivedThrough}
 
 module _ (w : List ℕ → ℕ) (text : List ℕ) (x : Session) (h : Held) where
   -- one request, asking for a call or for none
 
   pub performed :
-      (q : Request) (r : Response) (c : Call) (a : Answer) (x' : Session) (h' : Held) → asks q ≡ Some (asked c) → r ≡ written (reply a) → LivesOn w text (asked c) x h (reply a) x' h'
-      → Responded w text x h q r x' h'
-  performed q r c a x' h' e told lives = record {
-    reply = reply a;
-    told = told;
-    malformed = λ none. let z : ◌≡◌ {A = ℕ} 0 1 = cc in absurd (omega arith);
-    lives = subst (λ z. Carries w text x h (exchanged z (reply a)) x' h') (sym e) lives;
+      (q : Request) (c : Call) (a : ask.Reply) (x' : Session) (h' : Held) → asks q ≡ Some (asked c) → LivesOn w text (asked c) x h a x' h' → Performed w text x h q a x' h'
+  performed q c a x' h' e lives = record {
+    malformed = λ none. absurd (cc);
+    lives = subst (λ z. Carries w text x h (exchanged z a) x' h') (sym e) lives;
   }
 
-  pub malformed : (q : Request) (r : Response) → asks q ≡ None → r ≡ written (ask.refused 7) → Responded w text x h q r x h
-  malformed q r e told = record {
-    reply = ask.refused 7;
-    told = told;
-    malformed = λ none. refl;
-    lives = subst (λ z. Carries w text x h (exchanged z (ask.refused 7)) x h) (sym e) (still w text x h);
+  pub malformed : (q : Request) (r : Result Answer Refusal) (f : Refusal) → IsErrAnd r (λ e. e ≡ f) → f ≡ MalformedCommand → asks q ≡ None → Performed w text x h q (reply r) x h
+  malformed q (Ok a) f passed why e = absurd passed
+  malformed q (Err g) f passed why e = record {
+    malformed = λ none. ap (λ (z : Refusal). ask.refused (number_of z)) (passed ∙ why);
+    lives = subst (λ z. Carries w text x h (exchanged z (reply (Err g))) x h) (sym e) (still w text x h);
   }
 
 -- one request and one reply more
@@ -98,19 +97,19 @@ module _ (w : List ℕ → ℕ) (text : List ℕ) (x : Session) (h : Held) (qs :
       nothing (p ∷ ps) = refl
 
   pub next :
-      (i : ℕ) (rs : List Response) (q : Request) (r : Response) (x₁ x₂ : Session) (h₁ h₂ : Held) → i < length qs → i < length rs → Sofar w text x h qs rs₀ i rs x₁ h₁
-      → Responded w text x₁ h₁ (get_or qs i q) r x₂ h₂ → Sofar w text x h qs rs₀ (i + 1) (set rs i r) x₂ h₂
-  next i rs q r x₁ x₂ h₁ h₂ p p' got one =
-      let asked_more : take (i + 1) qs ≡ take i qs ++ (get_or qs i q ∷ []) = take_more qs i q p in
+      (i : ℕ) (rs : List Response) (d q : Request) (a : ask.Reply) (r : Response) (x₁ x₂ : Session) (h₁ h₂ : Held) → q ≡ get_or qs i d → i < length qs → i < length rs → Sofar w text x h qs rs₀ i rs x₁ h₁
+      → Performed w text x₁ h₁ q a x₂ h₂ → r ≡ written a → Sofar w text x h qs rs₀ (i + 1) (set rs i r) x₂ h₂
+  next i rs d q a r x₁ x₂ h₁ h₂ e p p' got one told =
+      let asked_more : take (i + 1) qs ≡ take i qs ++ (q ∷ []) = take_more qs i d p ∙ ap (λ (z : Request). take i qs ++ (z ∷ [])) (sym e) in
       let same : length (take i qs) ≡ length got.replies = length-take-le i qs (omega arith) ∙ sym got.all in
       record {
-        replies = got.replies ++ (one.reply ∷ []);
-        all = length-append got.replies (one.reply ∷ []) ∙ ap (λ (k : ℕ). k + 1) got.all;
-        told = take_more_set rs i r p' ∙ ap (λ z. z ++ (r ∷ [])) got.told ∙ ap (λ (z : Response). map written got.replies ++ (z ∷ [])) one.told ∙ sym (written_more got.replies one.reply);
+        replies = got.replies ++ (a ∷ []);
+        all = length-append got.replies (a ∷ []) ∙ ap (λ (k : ℕ). k + 1) got.all;
+        told = take_more_set rs i r p' ∙ ap (λ z. z ++ (r ∷ [])) got.told ∙ ap (λ (z : Response). map written got.replies ++ (z ∷ [])) told ∙ sym (written_more got.replies a);
         past = drop-set-lt (length qs) rs i r p ∙ got.past;
-        malformed = subst (λ z. MalformedRefused z (got.replies ++ (one.reply ∷ []))) (sym asked_more) (malformed_more (take i qs) got.replies (get_or qs i q) one.reply same got.malformed one.malformed);
+        malformed = subst (λ z. MalformedRefused z (got.replies ++ (a ∷ []))) (sym asked_more) (malformed_more (take i qs) got.replies q a same got.malformed one.malformed);
         lives =
-            as_told w text x h _ _ x₂ h₂ (sym (exchanges_more (take i qs) got.replies (get_or qs i q) one.reply same) ∙ ap (λ z. exchanges z (got.replies ++ (one.reply ∷ []))) (sym asked_more))
+            as_told w text x h _ _ x₂ h₂ (sym (exchanges_more (take i qs) got.replies q a same) ∙ ap (λ z. exchanges z (got.replies ++ (a ∷ []))) (sym asked_more))
             (joined w text x h _ _ x₁ x₂ h₁ h₂ got.lives one.lives);
       }
 

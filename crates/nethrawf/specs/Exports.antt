@@ -1,5 +1,5 @@
 -- What the exported functions answer. Assumes nothing.
-use Rattle.std.specs.Prelude.{◌≡◌, ℕ, ◌<◌, ◌≤◌, min, ◌⊎◌, List, [], map, length, take, drop, Some, None, Ok, Err, IsUtf8}
+use Rattle.std.specs.Prelude.{◌≡◌, ℕ, ◌<◌, ◌≤◌, min, ◌⊎◌, List, [], map, length, take, drop, Some, None, Ok, Err, Result, IsUtf8}
 use Rattle.std.specs.Str.{IsValidUpTo}
 use Rattle.refusals.specs.declared.Refusal.{Refusal}
 use Rattle.refusals.specs.Numbers.{number_of}
@@ -11,6 +11,8 @@ use Rattle.look.specs.Looked.{Answered}
 use Rattle.ledger.specs.Calls as ask
 use Rattle.ledger.specs.Ledger.{Limits, Ledger}
 use Rattle.ledger.specs.Life.{Lived}
+use Rattle.nethrawf.specs.declared.failure.Failure.{Failure}
+use Rattle.nethrawf.specs.declared.failure.Failure.TheVariants.{Refused, NoMemory}
 use Rattle.nethrawf.specs.declared.forms.Request.{Request}
 use Rattle.nethrawf.specs.declared.forms.Response.{Response}
 use Rattle.nethrawf.specs.declared.forms.Room.{Room}
@@ -37,6 +39,12 @@ Looks bytes k start before n after =
     × (TextRefused bytes n
     ⊎ (((n ≡ 7) × IsText bytes × (scan_numbered k ≡ None))
     ⊎ (IsText bytes × ((s : Scan) × (e : Refusal) × (scan_numbered k ≡ Some s) × (n ≡ number_of e) × Answered bytes start s (Err e))))))
+
+-- the number that C is told: 0 where it was done, that of a refusal, or 255 for no memory
+abbrev pub status_of : Result (Unit {0}) Failure → ℕ
+status_of (Ok t) = 0
+status_of (Err (Refused e)) = number_of e
+status_of (Err (NoMemory e)) = 255
 
 -- what a session with such room may hold, over a store of some places and some capacity
 abbrev pub limits : Room → ℕ → ℕ → Limits

@@ -24,10 +24,8 @@ MalformedRefused [] more = Unit {0}
 MalformedRefused (q ∷ qs) [] = Unit {0}
 MalformedRefused (q ∷ qs) (a ∷ more) = (asks q ≡ None → a ≡ ask.refused 7) × MalformedRefused qs more
 
--- one request: there is a reply, it is written down, and a life goes on by it
-pub record Responded (w : List ℕ → ℕ) (text : List ℕ) (x : Session) (h : Held) (q : Request) (r : Response) (x' : Session) (h' : Held) : Type 0 where
-  pub reply : ask.Reply
-  pub told : r ≡ written reply
+-- one request and its reply: a request that asks for no call is refused with 7, and a life goes on by the exchange
+pub record Performed (w : List ℕ → ℕ) (text : List ℕ) (x : Session) (h : Held) (q : Request) (reply : ask.Reply) (x' : Session) (h' : Held) : Type 0 where
   pub malformed : asks q ≡ None → reply ≡ ask.refused 7
   pub lives : Carries w text x h (exchanged (asks q) reply) x' h'
 

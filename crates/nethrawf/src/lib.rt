@@ -3,18 +3,20 @@
 
 ghost use Rattle.std.specs.Prelude.{◌≡◌, min, length};
 ghost use Rattle.coding.specs.Codes.{weight as bytes_weight};
-ghost use Rattle.nethrawf.specs.Exports.{Checked, Looks, Serves, limits};
+ghost use Rattle.nethrawf.specs.Exports.{Checked, Looks, Serves, status_of, limits};
 
+use failure::{Failure, status};
 use forms::{Request, Response, Room, Seen};
 use lives::serve;
 use look::look::look;
-use numbers::{scan_of, seen_of};
+use numbers::scan_of;
 use refusals::Refusal;
 use source::text::{Text, check};
 use std::alloc::Global;
 use units::Units;
 use wtf8::Wtf8;
 
+mod failure;
 pub mod forms;
 mod lives;
 mod numbers;
@@ -24,15 +26,11 @@ mod numbers;
 pub extern "C" fn nethrawf_check(bytes: &[u8], prefix: &mut usize) -> u32
     ensures { Checked bytes.now prefix.old result prefix.new }
 {
-    match check(bytes) {
-        Ok(()) => 0,
-        Err(refusal) => {
-            if let Refusal::NotUtf8(length) = refusal {
-                *prefix = length;
-            }
-            u32::from(refusal.number())
-        }
+    let checked = check(bytes);
+    if let Err(Refusal::NotUtf8(length)) = checked {
+        *prefix = length;
     }
+    status(checked.map_err(Failure::Refused))
 }
 
 // Looks at the literal from a start, with nothing stored: 0 and what is seen, or the number of a refusal. A scan is 0 for a string, 1 for a template, 2 for a resumption; any other is refused with 7.
@@ -40,19 +38,17 @@ pub extern "C" fn nethrawf_check(bytes: &[u8], prefix: &mut usize) -> u32
 pub extern "C" fn nethrawf_look(bytes: &[u8], scan: u32, start: usize, seen: &mut Seen) -> u32
     ensures { Looks bytes.now scan start seen.old result seen.new }
 {
-    if let Err(refusal) = check(bytes) {
-        return u32::from(refusal.number());
-    }
-    let Some(scan) = scan_of(scan) else {
-        return u32::from(Refusal::MalformedCommand.number());
-    };
-    match look(Text::new(bytes), start, scan) {
-        Ok(found) => {
-            *seen = seen_of(found);
-            0
-        }
-        Err(refusal) => u32::from(refusal.number()),
-    }
+    status(see(bytes, scan, start, seen))
+}
+
+fn see(bytes: &[u8], scan: u32, start: usize, seen: &mut Seen) -> Result<(), Failure>
+    ensures { Looks bytes.now scan start seen.old (status_of result) seen.new }
+{
+    let text = Text::try_from(bytes)?;
+    let scan = scan_of(scan)?;
+    let found = look(text, start, scan)?;
+    *seen = Seen::from(found);
+    Ok(())
 }
 
 // Makes one session over a store of 16-bit units in lent cells, and performs every request in its turn.
@@ -101,13 +97,15 @@ mod tests {
         records: 1,
     };
 
-    const BLANK: Response = Response {
-        refusal: 99,
-        kind: 99,
-        mark: 99,
-        first: 99,
-        second: 99,
-    };
+    fn response(refusal: u32, kind: u32, mark: u32, first: usize, second: usize) -> Response {
+        Response {
+            refusal,
+            kind,
+            mark,
+            first,
+            second,
+        }
+    }
 
     fn request(what: u32, start: usize, index: usize) -> Request {
         Request { what, start, index }
@@ -126,60 +124,51 @@ mod tests {
     }
 
     // By ECMA-262 the string has the units 0061 0041, and no escape is in the template.
-    fn answered_as_wanted(responses: &[Response; 6]) -> bool {
-        let wanted = [
-            (0, 1, 1, 0, 7),
-            (0, 0, 1, 2, 0),
-            (0, 0, 0, 0x41, 0),
-            (0, 2, 0, 8, 11),
-            (4, 0, 0, 0, 0),
-            (7, 0, 0, 0, 0),
-        ];
-        for i in 0..6 {
-            let r = responses[i];
-            if (r.refusal, r.kind, r.mark, r.first, r.second) != wanted[i] {
-                return false;
-            }
-        }
-        true
+    fn wanted() -> [Response; 6] {
+        [
+            response(0, 1, 1, 0, 7),
+            response(0, 0, 1, 2, 0),
+            response(0, 0, 0, 0x41, 0),
+            response(0, 2, 0, 8, 11),
+            response(4, 0, 0, 0, 0),
+            response(7, 0, 0, 0, 0),
+        ]
     }
 
     #[test]
     fn a_life_over_units(rt: HostRuntime) {
-        let mut responses = [BLANK; 6];
+        let mut responses = [response(99, 99, 99, 99, 99); 6];
         let mut cells = [0u16; 8];
         let mut ends = [0usize; 2];
-        let asked = requests();
         let done = nethrawf_serve_units(
             rt.alloc(),
             SCRIPT,
             &ROOM,
             &mut cells,
             &mut ends,
-            &asked,
+            &requests(),
             &mut responses,
         );
         assert_eq!(rt; done, 0);
-        assert!(rt; answered_as_wanted(&responses));
+        assert_eq!(rt; responses, wanted());
     }
 
     #[test]
     fn a_life_over_wtf8(rt: HostRuntime) {
-        let mut responses = [BLANK; 6];
+        let mut responses = [response(99, 99, 99, 99, 99); 6];
         let mut cells = [0u8; 8];
         let mut ends = [0usize; 2];
-        let asked = requests();
         let done = nethrawf_serve_wtf8(
             rt.alloc(),
             SCRIPT,
             &ROOM,
             &mut cells,
             &mut ends,
-            &asked,
+            &requests(),
             &mut responses,
         );
         assert_eq!(rt; done, 0);
-        assert!(rt; answered_as_wanted(&responses));
+        assert_eq!(rt; responses, wanted());
     }
 
     #[test]

@@ -1,22 +1,20 @@
 // A life: one session, and every request in its turn.
-ghost use Rattle.std.specs.Prelude.{◌≡◌, [], MatchResult};
+ghost use Rattle.std.specs.Prelude.{◌≡◌, []};
 ghost use Rattle.store.specs.Held.{Held};
+ghost use Rattle.session.specs.Performs.{reply};
 ghost use Rattle.session.specs.Scans.{bytes_of};
-ghost use Rattle.nethrawf.specs.Lives.{Responded, Served};
-ghost use Rattle.nethrawf.specs.Exports.{Serves, LivedThrough, limits};
+ghost use Rattle.nethrawf.specs.Lives.{Performed, Served};
+ghost use Rattle.nethrawf.specs.Exports.{Serves, status_of, limits};
 
+use super::failure::{Failure, status};
 use super::forms::{Request, Response, Room};
-use super::numbers::{call_of, response_of, turned_down};
 use faults::{Fault, FaultKind};
 use refusals::Refusal;
-use session::Session;
+use session::{Answer, Call, Session};
 use slots::Slot;
-use source::text::{Text, check};
-use std::alloc::{AllocError, Global};
+use source::text::Text;
+use std::alloc::Global;
 use store::ValueStore;
-
-// the answer where there is no memory for slots and records
-const NO_MEMORY: u32 = 255;
 
 // Makes one session over a store and performs every request in its turn, if the bytes are a text.
 pub fn serve<S: ValueStore>(
@@ -29,25 +27,20 @@ pub fn serve<S: ValueStore>(
 ) -> u32
     ensures { (S.ValueStore.held store.old).values ≡ [] → Serves S.ValueStore.weight (limits room (S.ValueStore.held store.old).places (S.ValueStore.held store.old).capacity) bytes.now requests.now responses.old result responses.new }
 {
-    if let Err(refusal) = check(bytes) {
-        return u32::from(refusal.number());
-    }
-    match live(heap, Text::new(bytes), room, store, requests, responses) {
-        Ok(()) => 0,
-        Err(_) => NO_MEMORY,
-    }
+    status(live(heap, bytes, room, store, requests, responses))
 }
 
 fn live<S: ValueStore>(
     heap: Global,
-    text: Text<'_>,
+    bytes: &[u8],
     room: Room,
     store: &mut S,
     requests: &[Request],
     responses: &mut [Response],
-) -> Result<(), AllocError>
-    ensures { MatchResult result (λ _. (S.ValueStore.held store.old).values ≡ [] → LivedThrough S.ValueStore.weight (limits room (S.ValueStore.held store.old).places (S.ValueStore.held store.old).capacity) (bytes_of text.entry) requests.now responses.old responses.new) (λ _. responses.new ≡ responses.old) }
+) -> Result<(), Failure>
+    ensures { (S.ValueStore.held store.old).values ≡ [] → Serves S.ValueStore.weight (limits room (S.ValueStore.held store.old).places (S.ValueStore.held store.old).capacity) bytes.now requests.now responses.old (status_of result) responses.new }
 {
+    let text = Text::try_from(bytes)?;
     let mut strings = vec![in heap; Slot::new(0usize); room.strings]?;
     let mut templates = vec![in heap; Slot::new(Some(0usize)); room.templates]?;
     let blank = Fault {
@@ -76,22 +69,21 @@ fn respond_all<S: ValueStore>(
     ensures { Served S.ValueStore.weight (bytes_of text.entry) session.old (S.ValueStore.held store.old) requests.now responses.old responses.new session.new (S.ValueStore.held store.new) }
 {
     let many = requests.len().min(responses.len());
-    for i in 0..many {
-        let request = requests[i];
-        responses[i] = respond(session, store, text, request);
+    // the responses by index, since a proof loses what a zip over iter_mut writes
+    for (i, request) in requests[..many].iter().enumerate() {
+        responses[i] = perform(session, store, text, *request).into();
     }
 }
 
-fn respond<S: ValueStore>(
+// Performs the call that a request asks for.
+fn perform<S: ValueStore>(
     session: &mut Session<'_>,
     store: &mut S,
     text: Text<'_>,
     request: Request,
-) -> Response
-    ensures { Responded S.ValueStore.weight (bytes_of text.entry) session.old (S.ValueStore.held store.old) request result session.new (S.ValueStore.held store.new) }
+) -> Result<Answer, Refusal>
+    ensures { Performed S.ValueStore.weight (bytes_of text.entry) session.old (S.ValueStore.held store.old) request (reply result) session.new (S.ValueStore.held store.new) }
 {
-    match call_of(request) {
-        Some(call) => response_of(session.perform(store, text, call)),
-        None => turned_down(Refusal::MalformedCommand),
-    }
+    let call = Call::try_from(request)?;
+    session.perform(store, text, call)
 }

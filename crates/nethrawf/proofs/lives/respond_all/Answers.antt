@@ -1,4 +1,5 @@
-use Rattle.std.proofs.Common.{arith}
+use Rattle.std.proofs.Common.{length-take, arith}
+use Rattle.std.proofs.lemmas.List.{get_or-take}
 use Rattle.session.specs.Scans.{bytes_of}
 use Rattle.nethrawf.proofs.Responding.{first, next, last}
 use Rattle.nethrawf.proofs.lives.respond_all.Goals as goal
@@ -11,11 +12,12 @@ loop-i-init g c =
 pub loop-i-preserved : goal.loop-i-preserved
 loop-i-preserved g c =
     let s = g.S.ValueStore in
-    next s.weight (bytes_of c.args.text) c.args.session.now (s.held c.args.store.now) c.args.requests.now c.args.responses.now c.loop-i.i c.loop-i.responses _ c.respond.result c.loop-i.session c.respond.new.session (s.held c.loop-i.store) (s.held c.respond.new.store)
-    (omega (arith, c.min-many.ensures, c.loop-i-test.true)) (omega (arith, c.min-many.ensures, c.loop-i-test.true, c.loop-i.auto.responses)) c.loop-i.invariant c.respond.ensures
+    let few = length-take c.min-many.result c.args.requests.now in
+    next s.weight (bytes_of c.args.text) _ _ c.args.requests.now c.args.responses.now c.loop-i.i c.loop-i.responses _ _ _ _ c.loop-i.session c.perform.new.session (s.held c.loop-i.store) (s.held c.perform.new.store)
+    (get_or-take c.min-many.result c.args.requests.now c.loop-i.i _ (omega arith)) (omega arith) (omega arith) c.loop-i.invariant c.perform.ensures c.into.ensures
 
 pub returns : goal.returns
 returns g c =
     let s = g.S.ValueStore in
-    last s.weight (bytes_of c.args.text) c.args.session.now (s.held c.args.store.now) c.args.requests.now c.args.responses.now c.loop-i.i c.loop-i.responses c.loop-i.session (s.held c.loop-i.store)
-    (omega (arith, c.loop-i-test.false, c.loop-i.auto.i-end, c.min-many.ensures)) c.loop-i.invariant
+    let few = length-take c.min-many.result c.args.requests.now in
+    last s.weight (bytes_of c.args.text) c.args.session.now (s.held c.args.store.now) c.args.requests.now c.args.responses.now c.loop-i.i c.loop-i.responses c.loop-i.session (s.held c.loop-i.store) (omega arith) c.loop-i.invariant
