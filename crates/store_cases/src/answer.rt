@@ -1,7 +1,9 @@
+use faults::Fault;
 use refusals::Refusal;
 use std::fmt;
+use wtf8::Place;
 
-// What a call answers.
+// What a call tells.
 #[derive(Clone, Copy)]
 pub enum Answer {
     Done,
@@ -9,7 +11,6 @@ pub enum Answer {
     Two(usize, usize),
     Nothing,
     Unknown,
-    Refused(Refusal),
 }
 
 impl fmt::Display for Answer {
@@ -20,31 +21,67 @@ impl fmt::Display for Answer {
             Answer::Two(a, b) => write!(f, "{a}/{b}"),
             Answer::Nothing => f.write_str("nothing"),
             Answer::Unknown => f.write_str("none"),
-            Answer::Refused(refusal) => {
-                let number = refusal.number();
-                write!(f, "no{number}")
-            }
         }
     }
 }
 
-pub fn done(answer: Result<(), Refusal>) -> Answer {
-    match answer {
-        Ok(()) => Answer::Done,
-        Err(refusal) => Answer::Refused(refusal),
+impl From<()> for Answer {
+    fn from(_nothing: ()) -> Answer {
+        Answer::Done
     }
 }
 
-pub fn number(answer: Result<usize, Refusal>) -> Answer {
-    match answer {
-        Ok(n) => Answer::Number(n),
-        Err(refusal) => Answer::Refused(refusal),
+impl From<usize> for Answer {
+    fn from(number: usize) -> Answer {
+        Answer::Number(number)
     }
 }
 
-pub fn unit(answer: Result<u16, Refusal>) -> Answer {
-    match answer {
-        Ok(u) => Answer::Number(usize::from(u)),
-        Err(refusal) => Answer::Refused(refusal),
+impl From<u16> for Answer {
+    fn from(unit: u16) -> Answer {
+        Answer::Number(usize::from(unit))
+    }
+}
+
+impl From<Option<usize>> for Answer {
+    fn from(number: Option<usize>) -> Answer {
+        number.map_or(Answer::Nothing, Answer::Number)
+    }
+}
+
+impl From<Place> for Answer {
+    fn from(place: Place) -> Answer {
+        Answer::Two(place.from, place.len)
+    }
+}
+
+impl From<Fault> for Answer {
+    fn from(fault: Fault) -> Answer {
+        Answer::Two(usize::from(fault.kind.number()), fault.to)
+    }
+}
+
+// What a call answers: what it tells, or the number of its refusal.
+#[derive(Clone, Copy)]
+pub struct Told(pub Result<Answer, Refusal>);
+
+impl fmt::Display for Told {
+    fn fmt<W: fmt::Write>(&self, f: &mut fmt::Formatter<W>) -> fmt::Result {
+        match self.0 {
+            Ok(answer) => write!(f, "{answer}"),
+            Err(refusal) => write!(f, "no{refusal}"),
+        }
+    }
+}
+
+// What two answer to one call.
+#[derive(Clone, Copy)]
+pub struct Both(pub Result<Answer, Refusal>, pub Result<Answer, Refusal>);
+
+impl fmt::Display for Both {
+    fn fmt<W: fmt::Write>(&self, f: &mut fmt::Formatter<W>) -> fmt::Result {
+        let left = Told(self.0);
+        let right = Told(self.1);
+        write!(f, "{left}|{right}")
     }
 }
