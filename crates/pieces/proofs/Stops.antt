@@ -1,5 +1,5 @@
 -- What stops a run of plain characters. Assumes nothing.
-use Rattle.std.proofs.Common.{◌≡◌, ℕ, ◌+◌, ◌<◌, ◌≤◌, Bool, true, false, ◌||◌, T, eqb, ◌⊎◌, List, [], ◌∷◌, length, get_or, drop, Some, None, Option, Result, IsUtf8, sym, refl, ap, ◌∙◌, subst, inl, inr, ⊎_elim, arith}
+use Rattle.std.proofs.Common.{◌≡◌, ℕ, ◌+◌, ◌<◌, ◌≤◌, Bool, true, false, ◌||◌, T, eqb, ◌⊎◌, List, [], ◌∷◌, length, get_or, drop, Some, None, Option, Result, sym, refl, ap, ◌∙◌, subst, inl, inr, ⊎_elim, arith}
 use Rattle.std.specs.Option.{MatchOption, unwrap_or}
 use Rattle.std.specs.Str.{IsCharBoundary}
 use Rattle.std.proofs.lemmas.Bool.{eqb-true, ne_eqb}
@@ -15,8 +15,6 @@ use Rattle.grammar.proofs.Ascii.{lookahead_not_at}
 use Rattle.grammar.proofs.Leaves.{takes}
 use Rattle.stops.specs.First.{Free, StopAt}
 use Rattle.source.specs.Fronts.{Begins}
-use Rattle.source.specs.Texts.{WellFormed}
-use Rattle.source.proofs.Known.{utf8_from}
 use Rattle.escapes.specs.Places.{At, Here}
 use Rattle.escapes.specs.Escapes.{is_template, units_told, faults_told, reached, EscapeRead}
 use Rattle.escapes.specs.declared.unicode.Given.{Given}
@@ -25,10 +23,7 @@ use Rattle.escapes.proofs.Looks.{here, over_at, two_here, second_ahead}
 use Rattle.escapes.proofs.Nodes.{stop}
 use Rattle.escapes.proofs.Parts.{one_step}
 use Rattle.pieces.specs.Plain.{Plain}
-use Rattle.pieces.specs.Pieces.{GoesOn, Ends, stops_in, StopRead, PieceRead}
-use Rattle.pieces.specs.declared.piece.Stop.{Stop}
-use Rattle.pieces.specs.declared.piece.Stop.TheVariants.{End}
-use Rattle.pieces.specs.declared.piece.Ending.TheVariants.{TextEnd}
+use Rattle.pieces.specs.Pieces.{GoesOn, Ends, stops_in}
 use Rattle.pieces.proofs.Plains.{plain, is}
 
 -- an ending, from the match of its rule
@@ -132,16 +127,11 @@ module _ (bs : List ℕ) (p : ℕ) where
   text_end_lem b a e =
       ends b bs p p (grammar.broken recovery.text_end) [] (subst (λ (r : Rule). Matches (utf8 bs) p r [] p) (sym (end_rule_lem b)) (refl, refl, nothing_left (utf8 bs) p e)) a (omega arith)
 
--- the escape behind a backslash, as the cursor that was moved there read it
+-- the escape behind a backslash
 pub escaped :
-    (bs bs' : List ℕ) (p q : ℕ) (m : Bool) (b : Body) (e : Result Given Invalid) → bs' ≡ bs → q ≡ p + 1 → m ≡ is_template b → Here bs p 92 → EscapeRead m bs' q (Some e)
+    (bs : List ℕ) (p : ℕ) (b : Body) (e : Result Given Invalid) → Here bs p 92 → EscapeRead (is_template b) bs (p + 1) (Some e)
     → GoesOn b bs p (units_told (is_template b) e) (faults_told (is_template b) p e) true (reached e) × (p + 1 < reached e)
-escaped bs bs' p q m b e f g i h x =
-    let y = subst (λ (z : Bool). EscapeRead z bs (p + 1) (Some e)) i (subst (λ (z : ℕ). EscapeRead m bs z (Some e)) g (subst (λ (z : List ℕ). EscapeRead m z q (Some e)) f x)) in
-    (record { part = y.0 b p refl h.step; behind = y.1; moves = omega (arith, y.2) }, y.2)
-
-pub escape_over : (bs bs' : List ℕ) (p q : ℕ) (m : Bool) → bs' ≡ bs → q ≡ p + 1 → EscapeRead m bs' q None → utf8 bs (p + 1) ≡ over
-escape_over bs bs' p q m f g x = subst (λ (z : ℕ). utf8 bs z ≡ over) g (subst (λ (z : List ℕ). utf8 z q ≡ over) f x)
+escaped bs p b e h x = (record { part = x.0 b p refl h.step; behind = x.1; moves = omega (arith, x.2) }, x.2)
 
 -- a stop is of ASCII
 some_of : (a b c d : Bool) → a || (b || (c || d)) ≡ true → (a ≡ true) ⊎ ((b ≡ true) ⊎ ((c ≡ true) ⊎ (d ≡ true)))
@@ -167,27 +157,3 @@ pub end_plain : (b : Body) (bs : List ℕ) (p : ℕ) → At bs p → Free (stops
 end_plain b bs p a f =
     let x = plain b bs p (length bs) a (IsCharBoundary-end bs) a.boundary.0 f in
     (x, text_end_lem bs (length bs) b x.behind (over_at bs (length bs) refl))
-
--- A PIECE, with the bytes and the place of its cursor as calls told them
-
-module _ (b : Body) (bs bs' : List ℕ) (p p' : ℕ) (e : bs' ≡ bs) (f : p' ≡ p) (w : WellFormed bs) (k : IsCharBoundary bs p) where
-  at_cursor : At bs p
-  at_cursor = record { text = utf8_from bs w; boundary = k }
-
-  found : (place byte : ℕ) → StopAt (stops_in b) bs' p' place byte → (IsUtf8 bs' → IsCharBoundary bs' p' → IsCharBoundary bs' place) → StopAt (stops_in b) bs p place byte × IsCharBoundary bs place
-  found place byte s d =
-      let s₁ = subst (λ (z : ℕ). StopAt (stops_in b) bs z place byte) f (subst (λ (z : List ℕ). StopAt (stops_in b) z p' place byte) e s) in
-      let d₁ = subst (λ (z : ℕ). IsUtf8 bs → IsCharBoundary bs z → IsCharBoundary bs place) f (subst (λ (z : List ℕ). IsUtf8 z → IsCharBoundary z p' → IsCharBoundary z place) e d) in
-      (s₁, d₁ (utf8_from bs w) k)
-
-  pub stop_met : (place byte : ℕ) → StopAt (stops_in b) bs' p' place byte → (IsUtf8 bs' → IsCharBoundary bs' p' → IsCharBoundary bs' place) → Here bs place byte × (stops_in b byte ≡ true)
-  stop_met place byte s d = let (s₁, d₁) = found place byte s d in (stop_here b bs p place byte at_cursor s₁ d₁, s₁.stop)
-
-  pub piece_some : (place byte : ℕ) (x : Stop) → StopAt (stops_in b) bs' p' place byte → (IsUtf8 bs' → IsCharBoundary bs' p' → IsCharBoundary bs' place) → StopRead b bs place x → PieceRead b bs p place x
-  piece_some place byte x s d y = let (s₁, d₁) = found place byte s d in record { plain = plain b bs p place at_cursor d₁ s₁.behind s₁.first; stop = y }
-
-  pub piece_none : (bs'' : List ℕ) → bs'' ≡ bs → Free (stops_in b) bs' p' (length bs') → PieceRead b bs p (length bs'') (End TextEnd (length bs''))
-  piece_none bs'' g r =
-      let r₁ = subst (λ (z : ℕ). Free (stops_in b) bs z (length bs)) f (subst (λ (z : List ℕ). Free (stops_in b) z p' (length z)) e r) in
-      let (x, y) = end_plain b bs p at_cursor r₁ in
-      subst (λ (z : List ℕ). PieceRead b bs p (length z) (End TextEnd (length z))) (sym g) (record { plain = x; stop = y })

@@ -59,11 +59,13 @@ impl Opening {
     }
 }
 
-// The first stop from a place on.
-fn find_stop(bytes: &[u8], at: usize, opening: Opening) -> Option<(usize, u8)>
-    ensures first { FirstStop (stops_in (body_of opening)) bytes.now at result }
-    ensures boundary { IsUtf8 bytes.now → IsCharBoundary bytes.now at → IfSome result (λ p. IsCharBoundary bytes.now p.0) }
+// The first stop from a cursor on.
+fn find_stop(cursor: Cursor<'_>, opening: Opening) -> Option<(usize, u8)>
+    ensures first { FirstStop (stops_in (body_of opening)) cursor.entry.bytes.now cursor.entry.place.at result }
+    ensures boundary { IfSome result (λ p. IsCharBoundary cursor.entry.bytes.now p.0) }
 {
+    let bytes = cursor.bytes();
+    let at = cursor.place();
     match opening {
         Opening::Double => search(&DoubleQuote, bytes, at),
         Opening::Single => search(&SingleQuote, bytes, at),
@@ -72,74 +74,75 @@ fn find_stop(bytes: &[u8], at: usize, opening: Opening) -> Option<(usize, u8)>
 }
 
 // A backslash in a literal.
-fn backslash(cursor: Cursor<'_>, at: usize, opening: Opening) -> Stop
-    requires { Here cursor.bytes.now at 92 }
-    ensures { StopRead (body_of opening) cursor.entry.bytes.now at result }
+fn backslash(cursor: Cursor<'_>, opening: Opening) -> Stop
+    requires { Here cursor.bytes.now cursor.place.at 92 }
+    ensures { StopRead (body_of opening) cursor.entry.bytes.now cursor.entry.place.at result }
 {
     let mut behind = cursor;
-    behind.move_to(at + 1);
+    behind.move_to(cursor.place() + 1);
     match read_escape(behind, opening.in_template()) {
-        None => Stop::End(Ending::LastBackslash, at + 1),
+        None => Stop::End(Ending::LastBackslash, behind.place()),
         Some(escape) => Stop::Escape(escape),
     }
 }
 
 // A dollar sign in a template.
-fn dollar(bytes: &[u8], at: usize) -> Stop
-    requires { Here bytes.now at 36 }
-    ensures { StopRead template bytes.now at result }
+fn dollar(cursor: Cursor<'_>) -> Stop
+    requires { Here cursor.bytes.now cursor.place.at 36 }
+    ensures { StopRead template cursor.entry.bytes.now cursor.entry.place.at result }
 {
-    match bytes.get(at + 1) {
+    let at = cursor.place();
+    match cursor.bytes().get(at + 1) {
         Some(b'{') => Stop::End(Ending::Substitution, at + 2),
         _ => Stop::Dollar(at + 1),
     }
 }
 
 // A CR in a template.
-fn carriage_return(bytes: &[u8], at: usize) -> Stop
-    requires { Here bytes.now at 13 }
-    ensures { StopRead template bytes.now at result }
+fn carriage_return(cursor: Cursor<'_>) -> Stop
+    requires { Here cursor.bytes.now cursor.place.at 13 }
+    ensures { StopRead template cursor.entry.bytes.now cursor.entry.place.at result }
 {
-    let next = behind::<b'\r', b'\n'>(bytes, at).unwrap_or(at + 1);
+    let at = cursor.place();
+    let next = behind::<b'\r', b'\n'>(cursor.bytes(), at).unwrap_or(at + 1);
     Stop::Return(next)
 }
 
 // A stop of a string that is no backslash.
-fn string_stop(bytes: &[u8], at: usize, byte: u8, opening: Opening) -> Stop
-    requires { (Here bytes.now at byte) × ((stops_in (body_of opening) byte ≡ true) × (((byte ≢ 92)) × (is_template (body_of opening) ≡ false))) }
-    ensures { StopRead (body_of opening) bytes.now at result }
+fn string_stop(cursor: Cursor<'_>, byte: u8, opening: Opening) -> Stop
+    requires { (Here cursor.bytes.now cursor.place.at byte) × ((stops_in (body_of opening) byte ≡ true) × (((byte ≢ 92)) × (is_template (body_of opening) ≡ false))) }
+    ensures { StopRead (body_of opening) cursor.entry.bytes.now cursor.entry.place.at result }
 {
     let ending = match byte {
         b'\r' | b'\n' => Ending::LineBreak,
         _ => Ending::Closed,
     };
-    Stop::End(ending, at + 1)
+    Stop::End(ending, cursor.place() + 1)
 }
 
 // A stop of a template that is no backslash.
-fn template_stop(bytes: &[u8], at: usize, byte: u8) -> Stop
-    requires { (Here bytes.now at byte) × ((stops_in template byte ≡ true) × ((byte ≢ 92))) }
-    ensures { StopRead template bytes.now at result }
+fn template_stop(cursor: Cursor<'_>, byte: u8) -> Stop
+    requires { (Here cursor.bytes.now cursor.place.at byte) × ((stops_in template byte ≡ true) × ((byte ≢ 92))) }
+    ensures { StopRead template cursor.entry.bytes.now cursor.entry.place.at result }
 {
     match byte {
-        b'$' => dollar(bytes, at),
-        b'\r' => carriage_return(bytes, at),
-        _ => Stop::End(Ending::Closed, at + 1),
+        b'$' => dollar(cursor),
+        b'\r' => carriage_return(cursor),
+        _ => Stop::End(Ending::Closed, cursor.place() + 1),
     }
 }
 
-// The stop at a place.
-fn stop_at(cursor: Cursor<'_>, at: usize, byte: u8, opening: Opening) -> Stop
-    requires { (Here cursor.bytes.now at byte) × (stops_in (body_of opening) byte ≡ true) }
-    ensures { StopRead (body_of opening) cursor.entry.bytes.now at result }
+// The stop at a cursor.
+fn stop_at(cursor: Cursor<'_>, byte: u8, opening: Opening) -> Stop
+    requires { (Here cursor.bytes.now cursor.place.at byte) × (stops_in (body_of opening) byte ≡ true) }
+    ensures { StopRead (body_of opening) cursor.entry.bytes.now cursor.entry.place.at result }
 {
     if byte == b'\\' {
-        return backslash(cursor, at, opening);
-    }
-    if opening.in_template() {
-        template_stop(cursor.bytes(), at, byte)
+        backslash(cursor, opening)
+    } else if opening.in_template() {
+        template_stop(cursor, byte)
     } else {
-        string_stop(cursor.bytes(), at, byte, opening)
+        string_stop(cursor, byte, opening)
     }
 }
 
@@ -148,14 +151,18 @@ pub fn next_piece(cursor: Cursor<'_>, opening: Opening) -> Piece
     ensures { PieceRead (body_of opening) cursor.entry.bytes.now cursor.entry.place.at result.to result.stop }
 {
     let end = cursor.bytes().len();
-    match find_stop(cursor.bytes(), cursor.place(), opening) {
+    match find_stop(cursor, opening) {
         None => Piece {
             to: end,
             stop: Stop::End(Ending::TextEnd, end),
         },
-        Some((place, byte)) => Piece {
-            to: place,
-            stop: stop_at(cursor, place, byte, opening),
-        },
+        Some((to, byte)) => {
+            let mut there = cursor;
+            there.move_to(to);
+            Piece {
+                to,
+                stop: stop_at(there, byte, opening),
+            }
+        }
     }
 }

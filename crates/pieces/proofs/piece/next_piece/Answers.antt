@@ -1,22 +1,28 @@
+use Rattle.escapes.proofs.Looks.{at_cursor}
 use Rattle.pieces.specs.Pieces.{body_of}
-use Rattle.pieces.proofs.Stops.{stop_met, piece_some, piece_none}
+use Rattle.pieces.proofs.Plains.{plain}
+use Rattle.pieces.proofs.Stops.{stop_here, end_plain}
 use Rattle.pieces.proofs.piece.next_piece.Goals as goal
 
 pub stop_at-requires : goal.stop_at-requires
 stop_at-requires c =
     let s = c.args.cursor in
+    let m = c.move_to.ensures in
     let h = c.in-Some.ensures in
-    stop_met (body_of c.args.opening) s.bytes.now c.bytes.result.now s.place.at c.place.result c.bytes.ensures c.place.ensures s.well s.boundary c.in-Some.place c.in-Some.byte h.first h.boundary
+    (rw m.text (rw (m.moves h.boundary) (stop_here (body_of c.args.opening) s.bytes.now s.place.at c.in-Some.to c.in-Some.byte (at_cursor s) h.first h.boundary)), h.first.stop)
 
 pub returns-in-None : goal.returns-in-None
 returns-in-None c =
     let s = c.args.cursor in
-    piece_none (body_of c.args.opening) s.bytes.now c.bytes.result.now s.place.at c.place.result c.bytes.ensures c.place.ensures s.well s.boundary
-    c.bytes-end.result.now c.bytes-end.ensures c.in-None.ensures.first
+    let (x, y) = end_plain (body_of c.args.opening) s.bytes.now s.place.at (at_cursor s) c.in-None.ensures.first in
+    rw c.bytes-end.ensures (record { plain = x; stop = y })
 
 pub returns-in-Some : goal.returns-in-Some
 returns-in-Some c =
     let s = c.args.cursor in
+    let m = c.move_to.ensures in
     let h = c.in-Some.ensures in
-    piece_some (body_of c.args.opening) s.bytes.now c.bytes.result.now s.place.at c.place.result c.bytes.ensures c.place.ensures s.well s.boundary
-    c.in-Some.place c.in-Some.byte c.stop_at.result h.first h.boundary c.stop_at.ensures
+    record {
+      plain = plain (body_of c.args.opening) s.bytes.now s.place.at c.in-Some.to (at_cursor s) h.boundary h.first.behind h.first.first;
+      stop = rw m.text at (rw (m.moves h.boundary) at c.stop_at.ensures);
+    }
