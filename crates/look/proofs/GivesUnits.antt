@@ -11,6 +11,7 @@ use Rattle.source.specs.Texts.{CharAt}
 use Rattle.source.specs.declared.cursor.Cursor.{Cursor}
 use Rattle.escapes.specs.Places.{At}
 use Rattle.escapes.specs.Escapes.{Part, listed}
+use Rattle.escapes.specs.declared.unicode.Given.{Given}
 use Rattle.escapes.specs.declared.unicode.Units.{Units}
 use Rattle.escapes.specs.declared.unicode.Units.TheVariants.{Nothing, One, Two}
 use Rattle.escapes.proofs.Parts.{part_join, append-nil}
@@ -85,9 +86,11 @@ done bs us at to l = ap (λ (z : List ℕ). us ++ utf16s z) (spelt_none bs at to
 
 -- the stop behind it and the next piece are read
 sofar_stop :
-    (bs : List ℕ) (start : ℕ) (o : Opening) (at : ℕ) (y z : Piece) (w : Units) (next : ℕ) (us : List ℕ) → Sofar bs start o at y [] us → y.to ≤ at → GivenRead (body_of o) bs y.to (Some (w, next))
-    → PieceRead (body_of o) bs next z.to z.stop → Sofar bs start o next z (listed w) us
-sofar_stop bs start o at y z w next us x l (u, fs, m, on, h) n =
+    (bs : List ℕ) (start : ℕ) (o : Opening) (at : ℕ) (y z : Piece) (g : Given) (us : List ℕ) → Sofar bs start o at y [] us → y.to ≤ at → GivenRead (body_of o) bs y.to (Some g)
+    → PieceRead (body_of o) bs g.next z.to z.stop → Sofar bs start o g.next z (listed g.units) us
+sofar_stop bs start o at y z g us x l (u, fs, m, on, h) n =
+    let w = g.units in
+    let next = g.next in
     let v = Some (utf16s (spelt bs next z.to)) in
     let p = part_join (body_of o) (utf8 bs) (start + 1) y.to next x.units u x.faults fs x.mark m x.part on.part in
     let first = holds_by x.units _ us (done bs us at y.to l) x.holds in
@@ -117,7 +120,7 @@ all_given bs start o at y us d x l (e, q, h) =
 -- THE SAME OF READERS
 
 -- what a stop gives, whatever the text
-abbrev pub Stopped : UnitReader → Option (Units × ℕ) → Type 0
+abbrev pub Stopped : UnitReader → Option Given → Type 0
 Stopped r g = GivenRead (body_of r.literal.opening) r.literal.inside.bytes.now r.piece.to g
 
 pub few : (w : Units) → length (listed w) ≤ 2
@@ -156,19 +159,20 @@ gave_plain r k c w us e l d f x =
     subst (λ z. Sofar bs r.literal.start o k.place.at r.piece z us) (sym f) (sofar_plain bs r.literal.start o r.cursor.place.at r.piece us c k.place.at y d.at l d.step)
 
 -- a stop: where the literal goes on
-pub passes : (r : UnitReader) (w : Units) (next : ℕ) → (StopRead (body_of r.literal.opening) r.literal.inside.bytes.now r.piece.to r.piece.stop → Stopped r (Some (w, next))) → IsCharBoundary r.literal.inside.bytes.now next × (r.piece.to < next)
-passes r w next g = ∥∥₁_elim r.read (hlevel (le_prop)) (λ (f, x). let (u, fs, m, on, h) = g x.stop in (on.behind.boundary, on.moves))
+pub passes : (r : UnitReader) (g : Given) → (StopRead (body_of r.literal.opening) r.literal.inside.bytes.now r.piece.to r.piece.stop → Stopped r (Some g)) → IsCharBoundary r.literal.inside.bytes.now g.next × (r.piece.to < g.next)
+passes r g k = ∥∥₁_elim r.read (hlevel (le_prop)) (λ (f, x). let (u, fs, m, on, h) = k x.stop in (on.behind.boundary, on.moves))
 
 pub gave_stop :
-    (r : UnitReader) (k : Cursor) (y : Piece) (w : Units) (next : ℕ) (us : List ℕ) → listed r.pending ≡ [] → r.piece.to ≤ r.cursor.place.at
-    → (StopRead (body_of r.literal.opening) r.literal.inside.bytes.now r.piece.to r.piece.stop → Stopped r (Some (w, next)))
-    → k.place.at ≡ next → PieceRead (body_of r.literal.opening) r.literal.inside.bytes.now k.place.at y.to y.stop → Gave r us
-    → Sofar r.literal.inside.bytes.now r.literal.start r.literal.opening k.place.at y (listed w) us
-gave_stop r k y w next us e l g i n x =
+    (r : UnitReader) (k : Cursor) (y : Piece) (g : Given) (us : List ℕ) → listed r.pending ≡ [] → r.piece.to ≤ r.cursor.place.at
+    → (StopRead (body_of r.literal.opening) r.literal.inside.bytes.now r.piece.to r.piece.stop → Stopped r (Some g))
+    → k.place.at ≡ g.next → PieceRead (body_of r.literal.opening) r.literal.inside.bytes.now k.place.at y.to y.stop → Gave r us
+    → Sofar r.literal.inside.bytes.now r.literal.start r.literal.opening k.place.at y (listed g.units) us
+gave_stop r k y g us e l h i n x =
     let bs = r.literal.inside.bytes.now in
     let o = r.literal.opening in
     let z = subst (λ z. Sofar bs r.literal.start o r.cursor.place.at r.piece z us) e x in
-    sofar_stop bs r.literal.start o r.cursor.place.at r.piece y w k.place.at us z l (subst (λ q. Stopped r (Some (w, q))) (sym i) (g x.read.stop)) n
+    let m = subst (λ q. PieceRead (body_of o) bs q y.to y.stop) i n in
+    subst (λ q. Sofar bs r.literal.start o q y (listed g.units) us) (sym i) (sofar_stop bs r.literal.start o r.cursor.place.at r.piece y g us z l (h x.read.stop) m)
 
 pub gave_all :
     (r : UnitReader) (us : List ℕ) → listed r.pending ≡ [] → r.piece.to ≤ r.cursor.place.at → (StopRead (body_of r.literal.opening) r.literal.inside.bytes.now r.piece.to r.piece.stop → Stopped r None) → Gave r us → GaveAll r us

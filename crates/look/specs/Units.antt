@@ -7,7 +7,7 @@ use Rattle.grammar.specs.Reading as grammar
 use Rattle.grammar.specs.Outcome.{Fault, units_read}
 use Rattle.escapes.specs.Places.{At}
 use Rattle.escapes.specs.Escapes.{Part, listed}
-use Rattle.escapes.specs.declared.unicode.Units.{Units}
+use Rattle.escapes.specs.declared.unicode.Given.{Given}
 use Rattle.pieces.specs.Plain.{spelt, utf16s}
 use Rattle.pieces.specs.Pieces.{scan_of, body_of, GoesOn, Ends, PieceRead}
 use Rattle.pieces.specs.declared.piece.Opening.{Opening}
@@ -25,8 +25,8 @@ abbrev pub Holds : Option (List ℕ) → List ℕ → Type 0
 Holds u xs = (us : List ℕ) → u ≡ Some us → us ≡ xs
 
 -- what a stop gives, and where the literal goes on
-abbrev pub GivenRead : Body → List ℕ → ℕ → Option (Units × ℕ) → Type 0
-GivenRead b bs p (Some g) = (u : Option (List ℕ)) × (fs : List Fault) × (mark : Bool) × GoesOn b bs p u fs mark g.1 × Holds u (listed g.0)
+abbrev pub GivenRead : Body → List ℕ → ℕ → Option Given → Type 0
+GivenRead b bs p (Some g) = (u : Option (List ℕ)) × (fs : List Fault) × (mark : Bool) × GoesOn b bs p u fs mark g.next × Holds u (listed g.units)
 GivenRead b bs p None = (e : grammar.Ending) × (q : ℕ) × Ends b bs p e q
 
 -- the literal is read up to the end of a piece, its units us are given, and those behind them are the pending ones and the characters from `at` to that end

@@ -8,18 +8,27 @@ ghost use Rattle.look.specs.Units.{GivenRead, Gave, GaveAll, Gives, togo};
 
 use crate::literal::Literal;
 use crate::units::UnitReader;
-use escapes::unicode::{Escape, Units, units_of};
+use escapes::unicode::{Given, Units, units_of};
 use pieces::piece::{Stop, next_piece};
 
 // What a stop gives and the place where the literal goes on, or none at its end.
-fn given_by(stop: Stop) -> Option<(Units, usize)>
+fn given_by(stop: Stop) -> Option<Given>
     ensures { (b : Body) (bs : List ℕ) (p : ℕ) → StopRead b bs p stop → GivenRead b bs p result }
 {
     match stop {
-        Stop::Escape(Escape::Gives(units, next)) => Some((units, next)),
-        Stop::Escape(Escape::Invalid(next)) => Some((Units::Nothing, next)),
-        Stop::Return(next) => Some((Units::One(10), next)),
-        Stop::Dollar(next) => Some((Units::One(36), next)),
+        Stop::Escape(Ok(given)) => Some(given),
+        Stop::Escape(Err(invalid)) => Some(Given {
+            units: Units::Nothing,
+            next: invalid.next,
+        }),
+        Stop::Return(next) => Some(Given {
+            units: Units::One(10),
+            next,
+        }),
+        Stop::Dollar(next) => Some(Given {
+            units: Units::One(36),
+            next,
+        }),
         Stop::End(_, _) => None,
     }
 }
@@ -77,10 +86,10 @@ impl UnitReader<'_> {
         ensures gave { (us : List ℕ) → Gave self.old us → MatchOption result (GaveAll self.old us) (λ _. Gave self.new us) }
         ensures nearer { OnSome result (togo self.new < togo self.old) }
     {
-        let (units, next) = given_by(self.piece.stop)?;
-        self.cursor.move_to(next);
+        let given = given_by(self.piece.stop)?;
+        self.cursor.move_to(given.next);
         self.piece = next_piece(self.cursor, self.literal.opening);
-        self.pending = units;
+        self.pending = given.units;
         Some(())
     }
 

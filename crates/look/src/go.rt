@@ -5,7 +5,7 @@ ghost use Rattle.escapes.specs.Escapes.{is_template, units_told, faults_told, re
 ghost use Rattle.pieces.specs.Pieces.{GoesOn, StopRead};
 ghost use Rattle.look.specs.Goes.{GoRead, PassedRead};
 
-use escapes::unicode::Escape;
+use escapes::unicode::{Given, Invalid};
 use pieces::piece::{Ending, Stop};
 use std::ops::ControlFlow;
 
@@ -19,21 +19,21 @@ pub struct Passed {
 }
 
 // An escape.
-fn pass_escape(escape: Escape, in_template: bool) -> Passed
+fn pass_escape(escape: Result<Given, Invalid>, in_template: bool) -> Passed
     ensures { (b : Body) (bs : List ℕ) (p : ℕ) → is_template b ≡ in_template → GoesOn b bs p (units_told (is_template b) escape) (faults_told (is_template b) p escape) true (reached escape) → PassedRead b bs p result }
 {
     match escape {
-        Escape::Gives(_, next) => Passed {
+        Ok(given) => Passed {
             faulty: false,
             cooked: true,
             marked: true,
-            next,
+            next: given.next,
         },
-        Escape::Invalid(next) => Passed {
+        Err(invalid) => Passed {
             faulty: !in_template,
             cooked: !in_template,
             marked: true,
-            next,
+            next: invalid.next,
         },
     }
 }
