@@ -1,5 +1,5 @@
 -- From an input to its report. Assumes nothing.
-use Rattle.std.proofs.Common.{◌≡◌, ℕ, ◌+◌, ◌≤◌, List, [], ◌∷◌, length, IfOk, Ok, Err, Result, refl, ap, ◌∙◌, subst, inr, arith, length-append}
+use Rattle.std.proofs.Common.{◌≡◌, ℕ, ◌+◌, ◌≤◌, List, [], ◌∷◌, length, IfOk, IsErrAnd, MatchResult, Ok, Err, Result, refl, ap, ◌∙◌, subst, inr, arith, length-append}
 use Rattle.refusals.specs.declared.Refusal.{Refusal}
 use Rattle.refusals.specs.declared.Refusal.TheVariants.{TooLong, NotUtf8, StartPastEnd, WrongOpening, IndexPastEnd, UnlawfulPattern, MalformedCommand, NoEntry, NoRecord, NoSlot, NoPlace, NoCapacity, PartNotUtf8}
 use Rattle.refusals.specs.Numbers.{number_of}
@@ -14,8 +14,9 @@ use Rattle.session.specs.Calls.{Lives}
 use Rattle.commands.specs.declared.kinds.Command.{Command}
 use Rattle.commands.specs.Format.{Input}
 use Rattle.reports.specs.declared.report.Report.{Report}
+use Rattle.reports.specs.declared.stop.Stop.{Stop}
+use Rattle.reports.specs.declared.stop.Stop.TheVariants.{Refused}
 use Rattle.reports.specs.Transcript.{transcript, Played}
-use Rattle.reports.specs.declared.report.Output.TheVariants as output
 use Rattle.reports.specs.Answers.{bench, LivedThrough, TurnedDown, Answers}
 
 -- commands performed from the making on are a life
@@ -52,8 +53,15 @@ no_text cs text input NoPlace p found none = absurd none
 no_text cs text input NoCapacity p found none = absurd none
 no_text cs text input PartNotUtf8 p found none = absurd none
 
+-- and `?` passes the refusal on
+pub turned_down :
+    (r : Result Report Stop) (input : List ℕ) (f : Refusal) → IsErrAnd r (λ stop. stop ≡ Refused f) → TurnedDown input (number_of f)
+    → MatchResult r (λ report. Answers input (Ok report)) (λ stop. (e : Refusal) → stop ≡ Refused e → Answers input (Err e))
+turned_down (Ok report) input f passed why = absurd passed
+turned_down (Err stop) input f passed why = λ e is. let same : f ≡ e = cc in subst (λ z. TurnedDown input (number_of z)) same why
+
 -- what the commands of an input on its text tell is the answer to the input
 pub reported :
-    (cs cs' : List Command) (text bytes input : List ℕ) (r : Report) → length input ≤ 32768 → Input cs text input → IsText text → bytes ≡ text → cs' ≡ cs → LivedThrough bytes cs' r → Answers input (output.Report r)
+    (cs cs' : List Command) (text bytes input : List ℕ) (r : Report) → length input ≤ 32768 → Input cs text input → IsText text → bytes ≡ text → cs' ≡ cs → LivedThrough bytes cs' r → Answers input (Ok r)
 reported cs cs' text bytes input r p found is e f lived =
     (p, (cs, text, found, is.0, subst (λ z. LivedThrough text z r) f (subst (λ z. LivedThrough z cs' r) e lived)))

@@ -1,43 +1,35 @@
 -- Questions asked one after another. Assumes nothing.
-use Rattle.std.proofs.Common.{◌≡◌, ℕ, zero, suc, ◌+◌, ◌<◌, Bool, true, false, cond, ltb, List, [], ◌∷◌, ◌++◌, length, get_or, Some, None, Ok, Option, sym, refl, ap, ◌∙◌, subst, arith, length-append}
+use Rattle.std.proofs.Common.{◌≡◌, ℕ, zero, suc, ◌+◌, ◌<◌, Bool, true, cond, ltb, List, [], ◌∷◌, ◌++◌, length, Some, None, Ok, Err, Option, Result, IsOk, sym, refl, ap, ◌∙◌, subst, arith, length-append}
 use Rattle.std.proofs.ResultArms.{chosen}
 use Rattle.std.proofs.lemmas.Bool.{lt-ltb}
+use Rattle.refusals.specs.declared.Refusal.{Refusal}
 use Rattle.faults.specs.declared.list.Fault.{Fault}
-use Rattle.store.specs.Held.{Held, dropped}
+use Rattle.store.specs.Held.{Held}
 use Rattle.ledger.specs.Calls as ask
-use Rattle.ledger.specs.Ledger.{kept_at, value_asked, unit_asked, fault_asked}
+use Rattle.ledger.specs.Ledger.{value_asked, unit_asked, fault_asked}
 use Rattle.session.specs.declared.Session.{Session}
-use Rattle.session.specs.declared.Value.{Value}
-use Rattle.session.specs.Views.{ledger_of}
-use Rattle.session.specs.Replies.{value_reply}
+use Rattle.session.specs.Replies.{unit_reply, fault_reply}
 use Rattle.session.specs.Calls.{Carries, Asks, LivesOn}
 use Rattle.session.proofs.Carrying.{still, joined, as_told}
 use Rattle.reports.specs.Transcript.{each_told, units_told}
 use Rattle.reports.proofs.Carrying.{each_more}
 
-refused_unit : (us : List ℕ) (i n : ℕ) (b : Bool) → ltb i (length us) ≡ b → i < length us → ask.refused n ≡ cond b (ask.united (get_or us i 0)) (ask.refused 5) → ⊥
-refused_unit us i n true e p q = let z : ◌≡◌ {A = ℕ} 0 1 = cc in omega arith
-refused_unit us i n false e p q = let f : true ≡ false = sym (lt-ltb i (length us) p) ∙ e in let z : ◌≡◌ {A = ℕ} 0 1 = cc in omega arith
-
 -- a unit within the value's length is told
-pub unit_is_told : (v : Option (Option (List ℕ))) (many i n : ℕ) → ask.valued true many ≡ value_asked v → i < many → ask.refused n ≡ unit_asked v i → ⊥
-unit_is_told None many i n e p q = let z : ◌≡◌ {A = ℕ} 0 1 = cc in omega arith
-unit_is_told (Some None) many i n e p q = let z : ◌≡◌ {A = ℕ} 0 1 = cc in omega arith
-unit_is_told (Some (Some us)) many i n e p q =
+pub unit_is_told : (v : Option (Option (List ℕ))) (many i : ℕ) (r : Result ℕ Refusal) → ask.valued true many ≡ value_asked v → i < many → unit_reply r ≡ unit_asked v i → IsOk r
+unit_is_told v many i (Ok u) e p q = refl
+unit_is_told None many i (Err x) e p q = absurd (cc)
+unit_is_told (Some None) many i (Err x) e p q = absurd (cc)
+unit_is_told (Some (Some us)) many i (Err x) e p q =
     let same : many ≡ length us = cc in
-    refused_unit us i n (ltb i (length us)) refl (omega arith) q
+    let within : ltb i (length us) ≡ true = lt-ltb i (length us) (omega arith) in
+    absurd (cc (rw within at q))
 
 -- a fault below the count is told
-pub fault_is_told : (fs : List Fault) (i n : ℕ) → i < length fs → ask.refused n ≡ fault_asked fs i → ⊥
-fault_is_told [] i n p q = omega arith
-fault_is_told (f ∷ fs) zero n p q = let z : ◌≡◌ {A = ℕ} 0 1 = cc in omega arith
-fault_is_told (f ∷ fs) (suc i) n p q = fault_is_told fs i n (omega arith) q
-
--- a value question that is not told of a value says so with no length
-none_is_told : (v : Option (Option (List ℕ))) (b : Bool) (n : ℕ) → ask.valued b n ≡ value_asked v → b ≡ false → ask.valued b n ≡ ask.valued false 0
-none_is_told None b n e f = let z : ◌≡◌ {A = ℕ} 0 1 = cc in absurd (omega arith)
-none_is_told (Some None) b n e f = e
-none_is_told (Some (Some us)) b n e f = let same : true ≡ false = cc in let z : ◌≡◌ {A = ℕ} 0 1 = cc in absurd (omega arith)
+pub fault_is_told : (fs : List Fault) (i : ℕ) (r : Result Fault Refusal) → i < length fs → fault_reply r ≡ fault_asked fs i → IsOk r
+fault_is_told fs i (Ok f) p q = refl
+fault_is_told [] i (Err x) p q = absurd (omega arith)
+fault_is_told (f ∷ fs) zero (Err x) p q = absurd (cc)
+fault_is_told (f ∷ fs) (suc i) (Err x) p q = fault_is_told fs i (Err x) (omega arith) q
 
 -- so many items were asked for one after another, and each was told
 pub record Gathered {A : Type 0} (w : List ℕ → ℕ) (x : Session) (h : Held) (f : ℕ → A → ask.Exchange) (n : ℕ) (items : List A) : Type 0 where
@@ -69,21 +61,8 @@ pub headed :
 headed w text c a told es x x' h h' e first then = joined w text x h (ask.says c told ∷ []) es x x' h h' (subst (λ (z : ask.Reply). LivesOn w text c x h z x h) e first) then
 
 -- the value question, and then each unit
-module _ (w : List ℕ → ℕ) (x : Session) (h : Held) (s : ℕ) (v : Value) (said : Asks w (ask.value s) x h (value_reply (Ok v))) where
-  abbrev kept : Option (Option (List ℕ))
-  kept = kept_at (ledger_of x (dropped h)) s
-
-  answered : ask.valued v.cooked v.length ≡ value_asked kept
-  answered = (said.called []).step.0
-
-  pub value_has_units : v.cooked ≡ true → ask.valued true v.length ≡ value_asked kept
-  value_has_units e = ap (λ (z : Bool). ask.valued z v.length) (sym e) ∙ answered
-
-  pub none_carries : v.cooked ≡ false → (text : List ℕ) → Carries w text x h (ask.says (ask.value s) (ask.valued false 0) ∷ []) x h
-  none_carries e text = headed w text (ask.value s) _ _ [] x x h h (none_is_told kept v.cooked v.length answered e) (said.lives text) (still w text x h)
-
-  pub units_carry :
-      v.cooked ≡ true → (us : List ℕ) → length us ≡ v.length → ((text : List ℕ) → Carries w text x h (units_told s us) x h)
-      → (text : List ℕ) → Carries w text x h (ask.says (ask.value s) (ask.valued true (length us)) ∷ units_told s us) x h
-  units_carry e us many carried text =
-      headed w text (ask.value s) (ask.valued v.cooked v.length) _ (units_told s us) x x h h (ap (λ (z : Bool). ask.valued z v.length) e ∙ ap (λ (n : ℕ). ask.valued true n) (sym many)) (said.lives text) (carried text)
+pub units_carry :
+    (w : List ℕ → ℕ) (x : Session) (h : Held) (s many : ℕ) (us : List ℕ) → Asks w (ask.value s) x h (ask.valued true many) → length us ≡ many → ((text : List ℕ) → Carries w text x h (units_told s us) x h)
+    → (text : List ℕ) → Carries w text x h (ask.says (ask.value s) (ask.valued true (length us)) ∷ units_told s us) x h
+units_carry w x h s many us said n carried text =
+    headed w text (ask.value s) (ask.valued true many) _ (units_told s us) x x h h (ap (ask.valued true) (sym n)) (said.lives text) (carried text)

@@ -1,5 +1,6 @@
 -- The calls that a report tells of, and the law over them. Assumes nothing.
-use Rattle.std.specs.Prelude.{◌≡◌, ℕ, ◌+◌, true, false, List, [], ◌∷◌, ◌++◌, map, length, Some, None, vec_items}
+use Rattle.std.specs.Prelude.{◌≡◌, ℕ, ◌+◌, true, false, List, [], ◌∷◌, ◌++◌, map, length, Some, None, Ok, Err, Result, vec_items}
+use Rattle.refusals.specs.declared.Refusal.{Refusal}
 use Rattle.refusals.specs.Numbers.{number_of}
 use Rattle.faults.specs.declared.list.Fault.{Fault}
 use Rattle.store.specs.Held.{Held}
@@ -31,13 +32,13 @@ abbrev pub units_told : ℕ → List ℕ → List ask.Exchange
 units_told s us = each_told (λ i u. ask.says (ask.unit s i) (ask.united u)) 0 us
 
 -- what is told of a call and, if that is a value, of each of its units
-abbrev pub exchanges : ask.Call → ℕ → Told → List ask.Exchange
-exchanges c s (told.Token t) = ask.says c (ask.token t) ∷ []
-exchanges c s (told.Value None) = ask.says c (ask.valued false 0) ∷ []
-exchanges c s (told.Value (Some us)) = ask.says c (ask.valued true (length (vec_items us))) ∷ units_told s (vec_items us)
-exchanges c s (told.Refused e) = ask.says c (ask.refused (number_of e)) ∷ []
+abbrev pub exchanges : ask.Call → ℕ → Result Told Refusal → List ask.Exchange
+exchanges c s (Ok (told.Token t)) = ask.says c (ask.token t) ∷ []
+exchanges c s (Ok (told.Value None)) = ask.says c (ask.valued false 0) ∷ []
+exchanges c s (Ok (told.Value (Some us))) = ask.says c (ask.valued true (length (vec_items us))) ∷ units_told s (vec_items us)
+exchanges c s (Err e) = ask.says c (ask.refused (number_of e)) ∷ []
 
-abbrev pub told_of : Command → Told → List ask.Exchange
+abbrev pub told_of : Command → Result Told Refusal → List ask.Exchange
 told_of c t = exchanges (call_by c.word c.start) c.start t
 
 abbrev pub lines_told : List Line → List ask.Exchange

@@ -1,20 +1,19 @@
 // An input, from its bytes to its report.
-ghost use Rattle.std.specs.Prelude.{◌≡◌, [], map, length, IfOk};
-ghost use Rattle.store.specs.Held.{Held};
-ghost use Rattle.session.specs.Calls.{Lives};
+ghost use Rattle.std.specs.Prelude.{◌≡◌, Ok, Err, IfOk, MatchResult};
+ghost use Rattle.refusals.specs.declared.Refusal.{Refusal};
 ghost use Rattle.session.specs.Scans.{bytes_of};
-ghost use Rattle.reports.specs.Transcript.{transcript};
 ghost use Rattle.reports.specs.Answers.{Answers, LivedThrough};
 
 use super::play::play;
 use super::report::{Output, Report};
+use super::stop::Stop;
 use commands::commands_of;
-use commands::kinds::{Command, NoCommands};
+use commands::kinds::Command;
 use faults::{Fault, FaultKind};
 use refusals::Refusal;
 use session::Session;
 use slots::Slot;
-use source::text::{Text, check};
+use source::text::Text;
 use std::alloc::{AllocError, Global};
 use units::Units;
 
@@ -23,21 +22,25 @@ const MOST: usize = 32_768;
 
 // Reads the commands and the text of an input and performs the commands on one session.
 pub fn answer(heap: Global, input: &[u8]) -> Result<Output, AllocError>
-    ensures { IfOk result (λ output. Answers input.now output) }
+    ensures { IfOk result (λ output. Answers input.now output.0) }
+{
+    match report_of(heap, input) {
+        Ok(report) => Ok(Output(Ok(report))),
+        Err(Stop::Refused(refusal)) => Ok(Output(Err(refusal))),
+        Err(Stop::NoMemory(error)) => Err(error),
+    }
+}
+
+fn report_of(heap: Global, input: &[u8]) -> Result<Report, Stop>
+    ensures { MatchResult result (λ report. Answers input.now (Ok report)) (λ stop. (e : Refusal) → stop ≡ Stop.Refused e → Answers input.now (Err e)) }
 {
     if input.len() > MOST {
-        return Ok(Output::Refused(Refusal::TooLong));
+        return Err(Stop::Refused(Refusal::TooLong));
     }
-    let (commands, text) = match commands_of(heap, input) {
-        Ok(found) => found,
-        Err(NoCommands::Malformed) => return Ok(Output::Refused(Refusal::MalformedCommand)),
-        Err(NoCommands::NoMemory) => return Err(AllocError),
-    };
-    if let Err(refusal) = check(text) {
-        return Ok(Output::Refused(refusal));
-    }
-    let report = perform_all(heap, Text::new(text), commands.as_slice())?;
-    Ok(Output::Report(report))
+    let (commands, bytes) = commands_of(heap, input)?;
+    let text = Text::try_from(bytes)?;
+    let report = perform_all(heap, text, commands.as_slice())?;
+    Ok(report)
 }
 
 // Performs commands on a session of 64 slots a map and 64 records, over a store of 64 places and 4,096 units.

@@ -26,7 +26,7 @@ pub fn carry_out<S: ValueStore>(
     store: &mut S,
     text: Text<'_>,
     command: Command,
-) -> Result<Told, AllocError>
+) -> Result<Result<Told, Refusal>, AllocError>
     ensures { IfOk result (λ told. Carries S.ValueStore.weight (bytes_of text.entry) session.old (S.ValueStore.held store.old) (told_of command told) session.new (S.ValueStore.held store.new)) }
 {
     let start = command.start;
@@ -38,13 +38,10 @@ pub fn carry_out<S: ValueStore>(
     }
 }
 
-fn scan_told(answer: Result<Token, Refusal>) -> Told
+fn scan_told(answer: Result<Token, Refusal>) -> Result<Told, Refusal>
     ensures { (c : ask.Call) (s : ℕ) → exchanges c s result ≡ ask.says c (token_reply answer) ∷ [] }
 {
-    match answer {
-        Ok(token) => Told::Token(token),
-        Err(refusal) => Told::Refused(refusal),
-    }
+    answer.map(Told::Token)
 }
 
 // Asks whether a value is cooked at a start, and then for each of its units.
@@ -53,18 +50,17 @@ fn ask_value<S: ValueStore>(
     session: &Session<'_>,
     store: &S,
     start: usize,
-) -> Result<Told, AllocError>
+) -> Result<Result<Told, Refusal>, AllocError>
     ensures { IfOk result (λ told. (text : List ℕ) → Carries S.ValueStore.weight text session.now (S.ValueStore.held store.now) (exchanges (ask.value start) start told) session.now (S.ValueStore.held store.now)) }
 {
-    let value = match session.value(store, start) {
-        Ok(value) => value,
-        Err(refusal) => return Ok(Told::Refused(refusal)),
-    };
-    if value.cooked {
-        let units = ask_units(heap, session, store, start, value.length)?;
-        return Ok(Told::Value(Some(units)));
+    match session.value(store, start) {
+        Ok(Some(length)) => {
+            let units = ask_units(heap, session, store, start, length)?;
+            Ok(Ok(Told::Value(Some(units))))
+        }
+        Ok(None) => Ok(Ok(Told::Value(None))),
+        Err(refusal) => Ok(Err(refusal)),
     }
-    Ok(Told::Value(None))
 }
 
 // Asks for all units of the value at a start.
@@ -80,10 +76,8 @@ fn ask_units<S: ValueStore>(
 {
     let mut units = Vec::new(heap);
     for index in 0..many {
-        match session.unit(store, start, index) {
-            Ok(unit) => units.push(unit)?,
-            Err(_) => unreachable(),
-        }
+        let unit = session.unit(store, start, index).unwrap();
+        units.push(unit)?;
     }
     Ok(units)
 }
@@ -98,10 +92,8 @@ pub fn ask_faults<S: ValueStore>(
 {
     let mut faults = Vec::new(heap);
     for index in 0..session.fault_count(store) {
-        match session.fault_at(store, index) {
-            Ok(fault) => faults.push(fault)?,
-            Err(_) => unreachable(),
-        }
+        let fault = session.fault_at(store, index).unwrap();
+        faults.push(fault)?;
     }
     Ok(faults)
 }

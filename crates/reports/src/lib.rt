@@ -6,3 +6,4 @@ mod ask;
 pub mod play;
 pub mod print;
 pub mod report;
+mod stop;

@@ -22,8 +22,7 @@ pub fn play<S: ValueStore>(
     ensures { IfOk result (λ report. Played S.ValueStore.weight (bytes_of text.entry) session.old (S.ValueStore.held store.old) commands.now report session.new (S.ValueStore.held store.new)) }
 {
     let mut lines = Vec::new(heap);
-    for command in commands {
-        let command = *command;
+    for &command in commands {
         let told = carry_out(heap, session, store, text, command)?;
         lines.push(Line { command, told })?;
     }

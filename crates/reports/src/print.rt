@@ -1,71 +1,54 @@
 // The lines that an output is printed as.
 use super::report::{Line, Output, Report, Told};
-use faults::Fault;
-use refusals::Refusal;
 use std::fmt;
-use tokens::Token;
 
 impl fmt::Display for Output {
     fn fmt<W: fmt::Write>(&self, f: &mut fmt::Formatter<W>) -> fmt::Result {
-        match self {
-            Output::Refused(refusal) => write_refusal(f, *refusal),
-            Output::Report(report) => write_report(f, report),
+        match &self.0 {
+            Ok(report) => write!(f, "{report}"),
+            Err(refusal) => writeln!(f, "refused {refusal}"),
         }
     }
 }
 
-fn write_report<W: fmt::Write>(f: &mut fmt::Formatter<W>, report: &Report) -> fmt::Result {
-    for line in report.lines.as_slice() {
-        write_line(f, line)?;
-    }
-    write_faults(f, report.faults.as_slice())
-}
-
-fn write_line<W: fmt::Write>(f: &mut fmt::Formatter<W>, line: &Line) -> fmt::Result {
-    let start = line.command.start;
-    match &line.told {
-        Told::Token(token) => write_token(f, *token),
-        Told::Value(None) => writeln!(f, "value {start} none"),
-        Told::Value(Some(units)) => write_value(f, start, units.as_slice()),
-        Told::Refused(refusal) => write_refusal(f, *refusal),
+// A line for each command, how many faults there are, and a line for each of them.
+impl fmt::Display for Report {
+    fn fmt<W: fmt::Write>(&self, f: &mut fmt::Formatter<W>) -> fmt::Result {
+        let lines = Listed(self.lines.as_slice());
+        let count = self.faults.len();
+        let faults = Listed(self.faults.as_slice());
+        write!(f, "{lines}faults {count}\n{faults}")
     }
 }
 
-fn write_token<W: fmt::Write>(f: &mut fmt::Formatter<W>, token: Token) -> fmt::Result {
-    let kind = token.kind.word();
-    let start = token.start;
-    let end = token.end;
-    let mark = if token.escaped { "escaped" } else { "plain" };
-    writeln!(f, "{kind} {start} {end} {mark}")
-}
+// Items, each on a line of its own.
+#[derive(Clone, Copy)]
+struct Listed<'a, T>(&'a [T]);
 
-// A value's start, and its units in four capital hex digits each.
-fn write_value<W: fmt::Write>(
-    f: &mut fmt::Formatter<W>,
-    start: usize,
-    units: &[u16],
-) -> fmt::Result {
-    write!(f, "value {start}")?;
-    for unit in units {
-        write!(f, " {unit:04X}")?;
+impl<T: fmt::Display> fmt::Display for Listed<'_, T> {
+    fn fmt<W: fmt::Write>(&self, f: &mut fmt::Formatter<W>) -> fmt::Result {
+        for item in self.0 {
+            writeln!(f, "{item}")?;
+        }
+        Ok(())
     }
-    writeln!(f)
 }
 
-fn write_refusal<W: fmt::Write>(f: &mut fmt::Formatter<W>, refusal: Refusal) -> fmt::Result {
-    let number = refusal.number();
-    writeln!(f, "refused {number}")
-}
-
-// How many faults there are, and a line for each.
-fn write_faults<W: fmt::Write>(f: &mut fmt::Formatter<W>, faults: &[Fault]) -> fmt::Result {
-    let count = faults.len();
-    writeln!(f, "faults {count}")?;
-    for fault in faults {
-        let word = fault.kind.word();
-        let from = fault.from;
-        let to = fault.to;
-        writeln!(f, "{word} {from} {to}")?;
+// A token; a value's start, and its units in four capital hex digits each; or why the command was turned down.
+impl fmt::Display for Line {
+    fn fmt<W: fmt::Write>(&self, f: &mut fmt::Formatter<W>) -> fmt::Result {
+        let start = self.command.start;
+        match &self.told {
+            Ok(Told::Token(token)) => write!(f, "{token}"),
+            Ok(Told::Value(None)) => write!(f, "value {start} none"),
+            Ok(Told::Value(Some(units))) => {
+                write!(f, "value {start}")?;
+                for unit in units {
+                    write!(f, " {unit:04X}")?;
+                }
+                Ok(())
+            }
+            Err(refusal) => write!(f, "refused {refusal}"),
+        }
     }
-    Ok(())
 }

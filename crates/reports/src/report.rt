@@ -4,18 +4,18 @@ use faults::Fault;
 use refusals::Refusal;
 use tokens::Token;
 
-// What one command tells: the token of a scan, the units of a value or that none is cooked, or why it was turned down.
+// What one command tells: the token of a scan, or the units of a value, or that none is cooked.
 #[derive(Drop)]
 pub enum Told {
     Token(Token),
     Value(Option<Vec<u16>>),
-    Refused(Refusal),
 }
 
+// A command with what it tells, or why it was turned down.
 #[derive(Drop)]
 pub struct Line {
     pub command: Command,
-    pub told: Told,
+    pub told: Result<Told, Refusal>,
 }
 
 // A line for each command, and the faults recorded when all were performed.
@@ -25,9 +25,6 @@ pub struct Report {
     pub faults: Vec<Fault>,
 }
 
-// What an input is answered with.
+// What an input is answered with: its report, or why it was turned down.
 #[derive(Drop)]
-pub enum Output {
-    Report(Report),
-    Refused(Refusal),
-}
+pub struct Output(pub Result<Report, Refusal>);

@@ -7,15 +7,15 @@ use Rattle.reports.proofs.ask.ask_faults.Goals as goal
 pub loop-index-init : goal.loop-index-init
 loop-index-init g c = gathered_none _ _ _ _ _ c.new-faults.ensures.items
 
-pub unreachable-requires : goal.unreachable-requires
-unreachable-requires g c =
+pub unwrap-fault-requires : goal.unwrap-fault-requires
+unwrap-fault-requires g c =
     let count = (c.fault_count-index-end.ensures.called []).step.0 in
     let many : c.fault_count-index-end.result ≡ length (faults_of c.args.session.now.faults) = cc in
-    fault_is_told _ c.loop-index.index _ (omega (arith, c.loop-index-test.true)) (c.in-Err.ensures.called []).step.0
+    fault_is_told _ c.loop-index.index _ (omega (arith, c.loop-index-test.true)) (c.fault_at.ensures.called []).step.0
 
 pub loop-index-preserved : goal.loop-index-preserved
 loop-index-preserved g c =
-    gathered_more _ _ _ _ _ _ _ _ _ c.loop-index.invariant c.push.ensures.items (ap is_ok c.in_ok-push-in-Ok.was) c.in-Ok.ensures.lives
+    gathered_more _ _ _ _ _ _ _ _ _ c.loop-index.invariant c.push.ensures.items (ap is_ok c.in_ok-push.was) (rw c.unwrap-fault.ensures at c.fault_at.ensures).lives
 
 pub returns : goal.returns
 returns g c text =

@@ -5,12 +5,12 @@ use Rattle.reports.proofs.ask.ask_units.Goals as goal
 pub loop-index-init : goal.loop-index-init
 loop-index-init g c = gathered_none _ _ _ _ _ c.new-units.ensures.items
 
-pub unreachable-requires : goal.unreachable-requires
-unreachable-requires g c = unit_is_told _ c.args.many c.loop-index.index _ c.requires c.loop-index-test.true (c.in-Err.ensures.called []).step.0
+pub unwrap-unit-requires : goal.unwrap-unit-requires
+unwrap-unit-requires g c = unit_is_told _ c.args.many c.loop-index.index _ c.requires c.loop-index-test.true (c.unit.ensures.called []).step.0
 
 pub loop-index-preserved : goal.loop-index-preserved
 loop-index-preserved g c =
-    gathered_more _ _ _ _ _ _ _ _ _ c.loop-index.invariant c.push.ensures.items (ap is_ok c.in_ok-push-in-Ok.was) c.in-Ok.ensures.lives
+    gathered_more _ _ _ _ _ _ _ _ _ c.loop-index.invariant c.push.ensures.items (ap is_ok c.in_ok-push.was) (rw c.unwrap-unit.ensures at c.unit.ensures).lives
 
 pub returns : goal.returns
 returns g c = (omega (arith, c.loop-index.invariant.count, c.loop-index-test.false, c.loop-index.auto.index-end), c.loop-index.invariant.lives)
