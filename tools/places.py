@@ -31,7 +31,7 @@ def functions():
         for m in head.finditer(TEXT[f]):
             indent, rest = m.group(1), TEXT[f][m.start():]
             opens = re.search(rf'^{indent}{{$|^.* {{$', rest, re.M)
-            ends = re.search(r';$', rest, re.M)
+            ends = re.search(rf';$|^{indent}{{}}$', rest, re.M)
             if not opens or (ends and ends.start() < opens.start()):
                 sign, body = rest[:ends.start()], ''
             else:
