@@ -9,8 +9,8 @@ use crate::places::{ahead, ascii_at};
 use crate::unicode::Invalid;
 use source::cursor::Cursor;
 
-// The value of a hex digit.
-pub(crate) fn hex_value(b: u8) -> Option<u8>
+// The value of a hex digit: a `u8`, where `char::to_digit` gives a `u32` that each reader of units would have to narrow.
+fn hex_value(b: u8) -> Option<u8>
     ensures cases { MatchOption result (T (member b hex_digit) → ⊥) (λ v. T (member b hex_digit) × (v ≡ digit b)) }
     ensures small { MatchOption result (b ≡ b) (λ v. v < 16) }
 {

@@ -35,7 +35,8 @@ pub struct Invalid {
     pub next: usize,
 }
 
-// A Unicode escape: a code point that is no surrogate, one that two halves make, or a surrogate alone. Each is its number.
+// A Unicode escape: a code point that is no surrogate, one that two halves make, or a surrogate alone. Each is its number,
+// in a range that clauses name, since an enum has no ghost field.
 #[derive(Clone, Copy)]
 pub(crate) enum UnicodeEscape {
     CodePoint(u32),
@@ -87,7 +88,7 @@ fn lead_of(c: char, digit_behind: bool, in_template: bool) -> Lead
 pub fn units_of(c: char) -> Units
     ensures { listed result ≡ utf16 c }
 {
-    code_units(c as u32)
+    code_units(u32::from(c))
 }
 
 // A code point in UTF-16.
@@ -132,8 +133,7 @@ fn unicode_units(escape: UnicodeEscape) -> Units
     ensures { listed result ≡ unicode_units escape }
 {
     match escape {
-        UnicodeEscape::CodePoint(c) => code_units(c),
-        UnicodeEscape::SurrogatePair(c) => code_units(c),
+        UnicodeEscape::CodePoint(c) | UnicodeEscape::SurrogatePair(c) => code_units(c),
         UnicodeEscape::LoneSurrogate(unit) => Units::One(unit as u16),
     }
 }

@@ -1,15 +1,5 @@
-use Rattle.std.proofs.Common.{arith}
-use Rattle.escapes.proofs.Behinds.{line_break_lem, single, other, nul, zero_decimal_lem, not_zero, here_of, octal_of}
+use Rattle.escapes.proofs.Behinds.{line_break_lem, single, other, nul, zero_decimal_lem, not_zero, octal_of}
 use Rattle.escapes.proofs.unicode.escape_of.Goals as goal
-
-pub return_escape-requires : goal.return_escape-requires
-return_escape-requires c = here_of c.args.cursor.bytes.now c.args.cursor.place.at c.args.c c.args.next 13 c.requires c.in-Return.ensures (omega arith)
-
-pub hex_escape-requires : goal.hex_escape-requires
-hex_escape-requires c = here_of c.args.cursor.bytes.now c.args.cursor.place.at c.args.c c.args.next 120 c.requires c.in-Hex.ensures (omega arith)
-
-pub unicode_escape-requires : goal.unicode_escape-requires
-unicode_escape-requires c = here_of c.args.cursor.bytes.now c.args.cursor.place.at c.args.c c.args.next 117 c.requires c.in-Unicode.ensures (omega arith)
 
 pub octal_escape-requires : goal.octal_escape-requires
 octal_escape-requires c =

@@ -1,5 +1,5 @@
 use Rattle.pieces.specs.Pieces.{body_of}
-use Rattle.pieces.proofs.Stops.{last_backslash_lem, escaped}
+use Rattle.pieces.proofs.Stops.{last_backslash_lem}
 use Rattle.pieces.proofs.piece.backslash.Goals as goal
 
 pub returns-in-None : goal.returns-in-None
@@ -9,11 +9,3 @@ returns-in-None c =
     let k = rw c.place.ensures at m.moves in
     let e = k c.requires.behind.boundary in
     rw c.place-in-None.ensures (rw e (last_backslash_lem s.bytes.now s.place.at (body_of c.args.opening) c.requires (rw m.text at (rw e at c.in-None.ensures))))
-
-pub returns-in-Some : goal.returns-in-Some
-returns-in-Some c =
-    let s = c.args.cursor in
-    let m = c.move_to.ensures in
-    let k = rw c.place.ensures at m.moves in
-    let e = k c.requires.behind.boundary in
-    escaped s.bytes.now s.place.at (body_of c.args.opening) c.in-Some.escape c.requires (rw c.in_template.ensures at (rw m.text at (rw e at c.in-Some.ensures)))
