@@ -1,8 +1,10 @@
-ghost use Rattle.std.specs.Prelude.{◌≡◌, false, [], ◌∷◌, ◌++◌, length, drop, if◌then◌else◌, Ok, Err, nat_lt};
+ghost use Rattle.std.specs.Prelude.{◌≡◌, false, [], ◌∷◌, ◌++◌, length, drop, if◌then◌else◌, Ok, Err, Some};
 ghost use Rattle.refusals.specs.Numbers.{numbered};
-ghost use Rattle.faults.specs.Records.{kind_of, records_of, faults_of, room_of, fault_told};
+ghost use Rattle.faults.specs.Records.{kind_of, word_of, fault_text, records_of, faults_of, room_of, has_record, fault_told};
 
+use lent::Lent;
 use refusals::Refusal;
+use std::fmt;
 
 // What is wrong with a literal.
 #[derive(Clone, Copy, PartialEq, Eq, Debug)]
@@ -22,21 +24,46 @@ impl FaultKind {
             FaultKind::InvalidEscape => 2,
         }
     }
+
+    pub fn word(self) -> &'static str
+        ensures { result.now ≡ word_of self }
+    {
+        match self {
+            FaultKind::Unterminated => "unterminated",
+            FaultKind::InvalidEscape => "invalid",
+        }
+    }
+}
+
+impl fmt::Display for FaultKind {
+    ghost output = { λ kind. Some (word_of kind) };
+
+    fn fmt<W: fmt::Write>(&self, f: &mut fmt::Formatter<W>) -> fmt::Result {
+        f.write_str(self.word())
+    }
 }
 
 // A fault, from one place to another.
-#[derive(Clone, Copy)]
+#[derive(Clone, Copy, PartialEq, Eq, Debug)]
 pub struct Fault {
     pub kind: FaultKind,
     pub from: usize,
     pub to: usize,
 }
 
-// Faults in lent records, in the order in which they came.
+impl fmt::Display for Fault {
+    ghost output = { λ fault. Some (fault_text fault) };
+
+    fn fmt<W: fmt::Write>(&self, f: &mut fmt::Formatter<W>) -> fmt::Result {
+        let Fault { kind, from, to } = *self;
+        write!(f, "{kind} {from} {to}")
+    }
+}
+
+// Faults in lent records, in the order in which they came: at most 4,096.
 #[derive(Drop)]
 pub struct FaultList<'a> {
-    records: &'a mut [Fault],
-    used: usize,
+    records: Lent<'a, Fault, 4096>,
 }
 
 impl<'a> FaultList<'a> {
@@ -45,66 +72,54 @@ impl<'a> FaultList<'a> {
         ensures empty { faults_of result ≡ [] }
         ensures records { records_of result ≡ records.old }
     {
-        FaultList { records, used: 0 }
+        FaultList {
+            records: Lent::new(records),
+        }
     }
 
     // How many faults there may be: the records that were lent, up to 4,096.
     pub fn room(&self) -> usize
         ensures { result ≡ room_of self.now }
     {
-        self.records.len().min(4096)
+        self.records.room()
     }
 
     // How many faults there are.
     pub fn count(&self) -> usize
         ensures { result ≡ length (faults_of self.now) }
     {
-        self.taken().len()
+        self.records.len()
     }
 
     // The fault at an index.
     pub fn at(&self, i: usize) -> Result<Fault, Refusal>
         ensures { numbered result ≡ fault_told (faults_of self.now) i }
     {
-        let faults = self.taken();
-        if i >= faults.len() {
-            return Err(Refusal::IndexPastEnd);
-        }
-        Ok(faults[i])
+        self.records
+            .as_slice()
+            .get(i)
+            .copied()
+            .ok_or(Refusal::IndexPastEnd)
     }
 
     // One fault more.
     pub fn append(&mut self, fault: Fault) -> Result<(), Refusal>
-        ensures answer { numbered result ≡ (if nat_lt (length (faults_of self.old)) (room_of self.old) then Ok tt else Err 9) }
-        ensures after { faults_of self.new ≡ (if nat_lt (length (faults_of self.old)) (room_of self.old) then faults_of self.old ++ (fault ∷ []) else faults_of self.old) }
-        ensures refused { nat_lt (length (faults_of self.old)) (room_of self.old) ≡ false → records_of self.new ≡ records_of self.old }
+        ensures answer { numbered result ≡ (if has_record self.old then Ok tt else Err 9) }
+        ensures after { faults_of self.new ≡ (if has_record self.old then faults_of self.old ++ (fault ∷ []) else faults_of self.old) }
+        ensures refused { has_record self.old ≡ false → records_of self.new ≡ records_of self.old }
         ensures past { drop 4096 (records_of self.new) ≡ drop 4096 (records_of self.old) }
         ensures room { room_of self.new ≡ room_of self.old }
-        ensures lent { self.new.records.ghost_name ≡ self.old.records.ghost_name }
+        ensures lent { self.new.records.memory.ghost_name ≡ self.old.records.memory.ghost_name }
     {
-        let at = self.used;
-        if at >= self.room() {
-            return Err(Refusal::NoRecord);
-        }
-        self.records[at] = fault;
-        self.used = at + 1;
-        Ok(())
+        self.records.push(fault).map_err(|_| Refusal::NoRecord)
     }
 
     // Frees every record. None is written.
     pub fn clear(&mut self)
         ensures after { faults_of self.new ≡ [] }
         ensures records { records_of self.new ≡ records_of self.old }
-        ensures lent { self.new.records.ghost_name ≡ self.old.records.ghost_name }
+        ensures lent { self.new.records.memory.ghost_name ≡ self.old.records.memory.ghost_name }
     {
-        self.used = 0;
-    }
-
-    // The records in use.
-    fn taken(&self) -> &[Fault]
-        ensures { result.now ≡ faults_of self.now }
-    {
-        let many = self.used.min(self.room());
-        &self.records[..many]
+        self.records.truncate(0);
     }
 }

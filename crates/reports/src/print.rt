@@ -3,7 +3,7 @@ use super::report::{Line, Output, Report, Told};
 use faults::Fault;
 use refusals::Refusal;
 use std::fmt;
-use tokens::{Token, fault_word};
+use tokens::Token;
 
 impl fmt::Display for Output {
     fn fmt<W: fmt::Write>(&self, f: &mut fmt::Formatter<W>) -> fmt::Result {
@@ -62,7 +62,7 @@ fn write_faults<W: fmt::Write>(f: &mut fmt::Formatter<W>, faults: &[Fault]) -> f
     let count = faults.len();
     writeln!(f, "faults {count}")?;
     for fault in faults {
-        let word = fault_word(fault.kind);
+        let word = fault.kind.word();
         let from = fault.from;
         let to = fault.to;
         writeln!(f, "{word} {from} {to}")?;

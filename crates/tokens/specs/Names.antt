@@ -1,9 +1,9 @@
--- The word of each kind, and of each kind of fault. Assumes nothing.
-use Rattle.std.specs.Prelude.{ℕ, List, codes}
+-- The word of each kind, and what a token prints. Assumes nothing.
+use Rattle.std.specs.Prelude.{ℕ, Bool, true, false, List, ◌++◌, codes}
+use Rattle.std.specs.Fmt.{decimal}
 use Rattle.tokens.specs.declared.Kind.{Kind}
 use Rattle.tokens.specs.declared.Kind.TheVariants.{Undetermined, Str, NoSubstitutionTemplate, TemplateHead, TemplateMiddle, TemplateTail}
-use Rattle.faults.specs.declared.list.FaultKind.{FaultKind}
-use Rattle.faults.specs.declared.list.FaultKind.TheVariants.{Unterminated, InvalidEscape}
+use Rattle.tokens.specs.declared.Token.{Token}
 
 abbrev pub word_of : Kind → List ℕ
 word_of Undetermined = codes "Undetermined"
@@ -13,6 +13,10 @@ word_of TemplateHead = codes "TemplateHead"
 word_of TemplateMiddle = codes "TemplateMiddle"
 word_of TemplateTail = codes "TemplateTail"
 
-abbrev pub fault_word_of : FaultKind → List ℕ
-fault_word_of Unterminated = codes "unterminated"
-fault_word_of InvalidEscape = codes "invalid"
+abbrev pub mark_of : Bool → List ℕ
+mark_of true = codes "escaped"
+mark_of false = codes "plain"
+
+-- its kind, where it begins and ends, and its mark
+abbrev pub token_text : Token → List ℕ
+token_text t = word_of t.kind ++ codes " " ++ decimal t.start ++ codes " " ++ decimal t.end ++ codes " " ++ mark_of t.escaped

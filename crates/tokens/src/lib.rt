@@ -1,12 +1,12 @@
 // Tokens: what a scan answers. Faults have a crate of their own.
 #![tactic(auto)]
 
-ghost use Rattle.std.specs.Prelude.{◌≡◌};
-ghost use Rattle.tokens.specs.Names.{word_of, fault_word_of};
+ghost use Rattle.std.specs.Prelude.{◌≡◌, Some};
+ghost use Rattle.tokens.specs.Names.{word_of, token_text};
 
-use faults::FaultKind;
+use std::fmt;
 
-#[derive(Clone, Copy)]
+#[derive(Clone, Copy, PartialEq, Eq, Debug)]
 pub enum Kind {
     Undetermined,
     Str,
@@ -31,8 +31,16 @@ impl Kind {
     }
 }
 
+impl fmt::Display for Kind {
+    ghost output = { λ kind. Some (word_of kind) };
+
+    fn fmt<W: fmt::Write>(&self, f: &mut fmt::Formatter<W>) -> fmt::Result {
+        f.write_str(self.word())
+    }
+}
+
 // A literal's start and end, its kind, and whether it has escapes or, in a template, a raw CR.
-#[derive(Clone, Copy)]
+#[derive(Clone, Copy, PartialEq, Eq, Debug)]
 pub struct Token {
     pub start: usize,
     pub end: usize,
@@ -40,12 +48,17 @@ pub struct Token {
     pub escaped: bool,
 }
 
-// The word of a kind of fault.
-pub fn fault_word(kind: FaultKind) -> &'static str
-    ensures { result.now ≡ fault_word_of kind }
-{
-    match kind {
-        FaultKind::Unterminated => "unterminated",
-        FaultKind::InvalidEscape => "invalid",
+impl fmt::Display for Token {
+    ghost output = { λ token. Some (token_text token) };
+
+    fn fmt<W: fmt::Write>(&self, f: &mut fmt::Formatter<W>) -> fmt::Result {
+        let Token {
+            start,
+            end,
+            kind,
+            escaped,
+        } = *self;
+        let mark = if escaped { "escaped" } else { "plain" };
+        write!(f, "{kind} {start} {end} {mark}")
     }
 }
