@@ -12,7 +12,7 @@ use Rattle.ledger.specs.Life.{Lived}
 use Rattle.ledger.proofs.Lives as ledger
 use Rattle.session.specs.declared.Session.{Session}
 use Rattle.session.specs.Views.{lent, limits_of, ledger_of, Memory, memory_of}
-use Rattle.session.specs.Calls.{Lives, refused_weight, came_to_put, Called, GoesOn, Asks}
+use Rattle.session.specs.Calls.{Lives, refused_weight, came_to_put, Called, Plays, GoesOn, Asks}
 
 emptied : (b : Bool) (d d' : List ℕ) → d' ≡ cond b [] d → d ≡ [] → d' ≡ []
 emptied true d d' e f = e
@@ -31,6 +31,9 @@ goes_on w text c x h a x' h' called m stored past lived =
     (subst (λ (z : Limits). Step w z text (ledger_of x (dropped h)) c a (ledger_of x' (dropped h'))) lived.limits called.step)) in
     subst (λ (z : Limits). Lived w m text stored (past ++ (says c a ∷ [])) z (ledger_of x' h')) (sym (called.limits ∙ lived.limits))
     (ledger.goes_on w m text stored past (ledger_of x h) c a (ledger_of x' h') (subst (λ (z : Limits). Lived w m text stored past z (ledger_of x h)) lived.limits lived) step)
+
+pub plays : (w : List ℕ → ℕ) (text : List ℕ) (c : Call) (x : Session) (h : Held) (a : Reply) (x' : Session) (h' : Held) → Called w text c x h a x' h' → Plays w text c x h a x' h'
+plays w text c x h a x' h' called = record { called = called; lives = goes_on w text c x h a x' h' called }
 
 pub same_length : (n : ℕ) → ltb n n ≡ false
 same_length n = le-ltb n n (omega arith)

@@ -28,9 +28,9 @@ use Rattle.ledger.proofs.Values.{string_cooked}
 use Rattle.session.specs.declared.Session.{Session}
 use Rattle.session.specs.Views.{limits_of, ledger_of}
 use Rattle.session.specs.Replies.{token_reply}
-use Rattle.session.specs.Calls.{Called, LivesOn}
+use Rattle.session.specs.Calls.{Called, Plays}
 use Rattle.session.specs.Scans.{sort_by, IsRead, Recorded, Needed, needs, AsNumber, AsOption, Keeps}
-use Rattle.session.proofs.Goes.{goes_on}
+use Rattle.session.proofs.Goes.{plays}
 use Rattle.session.proofs.Scanning as scanning
 use Rattle.session.proofs.Scanning.{length_recorded}
 
@@ -55,13 +55,6 @@ sort_same Resumption grammar.single_scan e = absurd (true≢false (sym e))
 sort_same Resumption grammar.template_scan e = absurd (true≢false (sym e))
 sort_same Resumption grammar.resumption e = refl
 
--- what a call's contract asks
-abbrev pub Owed : (List ℕ → ℕ) → List ℕ → Scan → ℕ → Session → Held → Reply → Session → Held → Type 0
-Owed w text k s x h a x' h' = record { called : Called w text (scan (sort_by k) s) x h a x' h'; lives : LivesOn w text (scan (sort_by k) s) x h a x' h' }
-
-owed : (w : List ℕ → ℕ) (text : List ℕ) (k : Scan) (s : ℕ) (x : Session) (h : Held) (a : Reply) (x' : Session) (h' : Held) → Called w text (scan (sort_by k) s) x h a x' h' → Owed w text k s x h a x' h'
-owed w text k s x h a x' h' c = record { called = c; lives = goes_on w text (scan (sort_by k) s) x h a x' h' c }
-
 -- what was found at the start
 abbrev pub Found : List ℕ → ℕ → Scan → Literal → Type 0
 Found text s k l = (l.inside.bytes.now ≡ text) × (l.start ≡ s) × (looked.opens k (get_or text s 0) ≡ true) × (looked.suits k (scan_of l.opening) ≡ true)
@@ -69,14 +62,14 @@ Found text s k l = (l.inside.bytes.now ≡ text) × (l.start ≡ s) × (looked.o
 -- a refusal passed on
 pub passed_on :
     (w : List ℕ → ℕ) (text : List ℕ) (k : Scan) (s : ℕ) (x : Session) (h : Held) (t : Result Token Refusal) (d e : Refusal) (x' : Session) (h' : Held) → t ≡ Err d → d ≡ e
-    → Owed w text k s x h (refused (number_of e)) x' h' → Owed w text k s x h (token_reply t) x' h'
-passed_on w text k s x h t d e x' h' is same = subst (λ (a : Reply). Owed w text k s x h a x' h') (sym (ap token_reply is ∙ ap (λ (z : Refusal). refused (number_of z)) same))
+    → Plays w text (scan (sort_by k) s) x h (refused (number_of e)) x' h' → Plays w text (scan (sort_by k) s) x h (token_reply t) x' h'
+passed_on w text k s x h t d e x' h' is same = subst (λ (a : Reply). Plays w text (scan (sort_by k) s) x h a x' h') (sym (ap token_reply is ∙ ap (λ (z : Refusal). refused (number_of z)) same))
 
 module _ (w : List ℕ → ℕ) (nothing : w [] ≡ 0) (text : List ℕ) (k : Scan) (s : ℕ) (x : Session) (h : Held) where
   -- the look is refused
-  pub unseen : (e : Refusal) → looked.Refused text s k e → Owed w text k s x h (refused (number_of e)) x h
-  unseen e (inl (n, ge)) = owed w text k s x h (refused (number_of e)) x h (scanning.past_text w nothing text (sort_by k) s x h (number_of e) n ge)
-  unseen e (inr (n, lt, other)) = owed w text k s x h (refused (number_of e)) x h (scanning.wrong_opening w nothing text (sort_by k) s x h (number_of e) n lt (sym (opens_same k (get_or text s 0)) ∙ other))
+  pub unseen : (e : Refusal) → looked.Refused text s k e → Plays w text (scan (sort_by k) s) x h (refused (number_of e)) x h
+  unseen e (inl (n, ge)) = plays w text (scan (sort_by k) s) x h (refused (number_of e)) x h (scanning.past_text w nothing text (sort_by k) s x h (number_of e) n ge)
+  unseen e (inr (n, lt, other)) = plays w text (scan (sort_by k) s) x h (refused (number_of e)) x h (scanning.wrong_opening w nothing text (sort_by k) s x h (number_of e) n lt (sym (opens_same k (get_or text s 0)) ∙ other))
 
   module _ (l : Literal) (found : Found text s k l) (seen : Look) (looks : looked.LookedAt l.inside.bytes.now l.start l.opening seen) where
     lt : s < length text
@@ -115,10 +108,10 @@ module _ (w : List ℕ → ℕ) (nothing : w [] ≡ 0) (text : List ℕ) (k : Sc
 
     module _ (free : ℕ) (free_is : free ≡ faulty.room_of x.faults - length (faulty.faults_of x.faults)) where
       -- more faults than free records
-      pub too_many : free < seen.faults → Owed w text k s x h (refused 9) x h
+      pub too_many : free < seen.faults → Plays w text (scan (sort_by k) s) x h (refused 9) x h
       unfolding r at
       too_many more =
-          owed w text k s x h (refused 9) x h
+          plays w text (scan (sort_by k) s) x h (refused 9) x h
           (scanning.no_records w nothing text (sort_by k) s x h lt right r at.reading at.from sort (let e = needed in omega arith))
 
       module _ (enough : seen.faults ≤ free) where
@@ -178,9 +171,9 @@ module _ (w : List ℕ → ℕ) (nothing : w [] ≡ 0) (text : List ℕ) (k : Sc
             done_by true inside (needed, et, ef) = string_done _ inside et ef refl (needed_in AsNumber x.strings x₁.strings (Ok tt) (sym (cond-true _ _ _ inside)) needed)
             done_by false outside (needed, ez, ef) = template_done _ outside ez ef refl (needed_in AsOption x.templates x₁.templates (Ok tt) (sym (cond-false _ _ _ outside)) needed)
 
-            pub done : (a : Result (Unit {0}) Refusal) → a ≡ Ok tt → FromKeep a → Owed w text k s x h (token seen.token) (record { strings = x₁.strings; templates = x₁.templates; faults = f }) h'
+            pub done : (a : Result (Unit {0}) Refusal) → a ≡ Ok tt → FromKeep a → Plays w text (scan (sort_by k) s) x h (token seen.token) (record { strings = x₁.strings; templates = x₁.templates; faults = f }) h'
             unfolding r at
-            done a ok from = owed w text k s x h (token seen.token) (record { strings = x₁.strings; templates = x₁.templates; faults = f }) h' (done_by _ refl (subst (Kept (in_strings r)) ok (kept a from)))
+            done a ok from = plays w text (scan (sort_by k) s) x h (token seen.token) (record { strings = x₁.strings; templates = x₁.templates; faults = f }) h' (done_by _ refl (subst (Kept (in_strings r)) ok (kept a from)))
 
           -- it was not
 
@@ -208,8 +201,8 @@ module _ (w : List ℕ → ℕ) (nothing : w [] ≡ 0) (text : List ℕ) (k : Sc
                 let p = undone_in AsOption x.templates x₁.templates _ (cond-false _ _ _ outside) refl (needed_in AsOption x.templates x₁.templates (Err e) (sym (cond-false _ _ _ outside)) needed) in
                 (λ j. record { strings = ez j; templates = p.0 j; faults = ef j }, p.1)
 
-            pub undone : (a : Result (Unit {0}) Refusal) → a ≡ Err e → FromKeep a → Owed w text k s x h (refused (number_of e)) x₁ h'
+            pub undone : (a : Result (Unit {0}) Refusal) → a ≡ Err e → FromKeep a → Plays w text (scan (sort_by k) s) x h (refused (number_of e)) x₁ h'
             unfolding r at
             undone a not from =
                 let p = undone_by _ refl (subst (Kept (in_strings r)) not (kept a from)) in
-                owed w text k s x h (refused (number_of e)) x₁ h' (subst (λ (y : Session). Called w text (scan (sort_by k) s) x h (refused (number_of e)) y h') (sym p.0) p.1)
+                plays w text (scan (sort_by k) s) x h (refused (number_of e)) x₁ h' (subst (λ (y : Session). Called w text (scan (sort_by k) s) x h (refused (number_of e)) y h') (sym p.0) p.1)

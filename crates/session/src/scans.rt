@@ -11,7 +11,7 @@ ghost use Rattle.store.specs.Held.{fits, with_unit, has_place, closed, dropped};
 ghost use Rattle.ledger.specs.Calls as ask;
 ghost use Rattle.ledger.specs.Ledger.{of_string};
 ghost use Rattle.session.specs.Replies.{token_reply};
-ghost use Rattle.session.specs.Calls.{Called, LivesOn};
+ghost use Rattle.session.specs.Calls.{Plays};
 ghost use Rattle.session.specs.Scans.{sort_by, bytes_of, IsRead, Stores, Recorded, Files, Needed, needs, Keeps};
 
 use super::Session;
@@ -33,8 +33,7 @@ impl<'a> Session<'a> {
         text: Text<'_>,
         start: usize,
     ) -> Result<Token, Refusal>
-        ensures called { Called S.ValueStore.weight (bytes_of text.entry) (ask.scan ask.string start) self.old (S.ValueStore.held store.old) (token_reply result) self.new (S.ValueStore.held store.new) }
-        ensures lives { LivesOn S.ValueStore.weight (bytes_of text.entry) (ask.scan ask.string start) self.old (S.ValueStore.held store.old) (token_reply result) self.new (S.ValueStore.held store.new) }
+        ensures { Plays S.ValueStore.weight (bytes_of text.entry) (ask.scan ask.string start) self.old (S.ValueStore.held store.old) (token_reply result) self.new (S.ValueStore.held store.new) }
     {
         self.scan(store, text, start, Scan::Str)
     }
@@ -46,8 +45,7 @@ impl<'a> Session<'a> {
         text: Text<'_>,
         start: usize,
     ) -> Result<Token, Refusal>
-        ensures called { Called S.ValueStore.weight (bytes_of text.entry) (ask.scan ask.template start) self.old (S.ValueStore.held store.old) (token_reply result) self.new (S.ValueStore.held store.new) }
-        ensures lives { LivesOn S.ValueStore.weight (bytes_of text.entry) (ask.scan ask.template start) self.old (S.ValueStore.held store.old) (token_reply result) self.new (S.ValueStore.held store.new) }
+        ensures { Plays S.ValueStore.weight (bytes_of text.entry) (ask.scan ask.template start) self.old (S.ValueStore.held store.old) (token_reply result) self.new (S.ValueStore.held store.new) }
     {
         self.scan(store, text, start, Scan::Template)
     }
@@ -59,8 +57,7 @@ impl<'a> Session<'a> {
         text: Text<'_>,
         start: usize,
     ) -> Result<Token, Refusal>
-        ensures called { Called S.ValueStore.weight (bytes_of text.entry) (ask.scan ask.resumption start) self.old (S.ValueStore.held store.old) (token_reply result) self.new (S.ValueStore.held store.new) }
-        ensures lives { LivesOn S.ValueStore.weight (bytes_of text.entry) (ask.scan ask.resumption start) self.old (S.ValueStore.held store.old) (token_reply result) self.new (S.ValueStore.held store.new) }
+        ensures { Plays S.ValueStore.weight (bytes_of text.entry) (ask.scan ask.resumption start) self.old (S.ValueStore.held store.old) (token_reply result) self.new (S.ValueStore.held store.new) }
     {
         self.scan(store, text, start, Scan::Resumption)
     }
@@ -73,8 +70,7 @@ impl<'a> Session<'a> {
         start: usize,
         scan: Scan,
     ) -> Result<Token, Refusal>
-        ensures called { Called S.ValueStore.weight (bytes_of text.entry) (ask.scan (sort_by scan) start) self.old (S.ValueStore.held store.old) (token_reply result) self.new (S.ValueStore.held store.new) }
-        ensures lives { LivesOn S.ValueStore.weight (bytes_of text.entry) (ask.scan (sort_by scan) start) self.old (S.ValueStore.held store.old) (token_reply result) self.new (S.ValueStore.held store.new) }
+        ensures { Plays S.ValueStore.weight (bytes_of text.entry) (ask.scan (sort_by scan) start) self.old (S.ValueStore.held store.old) (token_reply result) self.new (S.ValueStore.held store.new) }
     {
         let literal = Literal::find(text, start, scan)?;
         let seen = literal.look();
@@ -157,6 +153,7 @@ fn put_units<S: ValueStore>(store: &mut S, literal: Literal<'_>) -> Result<usize
     }
     store.drop_open();
     let mut fits = true;
+    // to the last, since what does not fit is told by the weight of all
     for unit in literal.units() {
         fits = put_on(store, unit, fits);
     }
@@ -169,10 +166,7 @@ fn put_on<S: ValueStore>(store: &mut S, unit: u16, fitted: bool) -> bool
     ensures after { S.ValueStore.held store.new ≡ (if fitted && fits S.ValueStore.weight (S.ValueStore.held store.old) unit then with_unit (S.ValueStore.held store.old) unit else S.ValueStore.held store.old) }
     ensures narrow { unit < 65536 }
 {
-    if !fitted {
-        return false;
-    }
-    store.put(unit).is_ok()
+    fitted && store.put(unit).is_ok()
 }
 
 // Finishes the open value, or drops it where not all of it fitted.
