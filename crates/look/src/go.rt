@@ -7,6 +7,7 @@ ghost use Rattle.look.specs.Goes.{GoRead, PassedRead};
 
 use escapes::unicode::Escape;
 use pieces::piece::{Ending, Stop};
+use std::ops::ControlFlow;
 
 // A stop that the literal passes: whether it is a fault, whether a value is still cooked, whether it marks the literal, and the place behind it.
 #[derive(Clone, Copy)]
@@ -15,12 +16,6 @@ pub struct Passed {
     pub cooked: bool,
     pub marked: bool,
     pub next: usize,
-}
-
-#[derive(Clone, Copy)]
-pub enum Go {
-    On(Passed),
-    End(Ending, usize),
 }
 
 // An escape.
@@ -43,24 +38,24 @@ fn pass_escape(escape: Escape, in_template: bool) -> Passed
     }
 }
 
-// Any stop.
-pub fn go_by(stop: Stop, in_template: bool) -> Go
+// Any stop: what is passed, or the literal's ending and end.
+pub fn go_by(stop: Stop, in_template: bool) -> ControlFlow<(Ending, usize), Passed>
     ensures { (b : Body) (bs : List ℕ) (p : ℕ) → is_template b ≡ in_template → StopRead b bs p stop → GoRead b bs p result }
 {
     match stop {
-        Stop::Escape(escape) => Go::On(pass_escape(escape, in_template)),
-        Stop::Return(next) => Go::On(Passed {
+        Stop::Escape(escape) => ControlFlow::Continue(pass_escape(escape, in_template)),
+        Stop::Return(next) => ControlFlow::Continue(Passed {
             faulty: false,
             cooked: true,
             marked: true,
             next,
         }),
-        Stop::Dollar(next) => Go::On(Passed {
+        Stop::Dollar(next) => ControlFlow::Continue(Passed {
             faulty: false,
             cooked: true,
             marked: false,
             next,
         }),
-        Stop::End(ending, end) => Go::End(ending, end),
+        Stop::End(ending, end) => ControlFlow::Break((ending, end)),
     }
 }

@@ -3,12 +3,8 @@
 
 use anyhow::anyhow;
 use faults::Fault;
-use look::answer::{Look, Scan};
-use look::faulty::{FaultReader, FaultStep};
-use look::look::look;
-use look::units::{UnitReader, UnitStep};
-use pieces::piece::Opening;
-use source::cursor::Cursor;
+use look::answer::Scan;
+use look::literal::Literal;
 use source::text::Text;
 use std::alloc::Global;
 use std::fmt::Write;
@@ -51,31 +47,15 @@ fn scan_named(word: &str) -> anyhow::Result<Scan> {
     }
 }
 
-fn opening_of(byte: Option<u8>) -> Opening {
-    match byte {
-        Some(b'\'') => Opening::Single,
-        Some(b'`') => Opening::Template,
-        Some(b'}') => Opening::Resumption,
-        _ => Opening::Double,
-    }
-}
-
 // Writes the units, joined by commas.
-fn write_units(out: &mut String, cursor: Cursor<'_>, opening: Opening) -> anyhow::Result<()> {
-    let mut reader = UnitReader::new(cursor, opening);
+fn write_units(out: &mut String, literal: Literal<'_>) -> anyhow::Result<()> {
     let mut first = true;
-    for _ in 0..1_000_000u32 {
-        match reader.step() {
-            UnitStep::Unit(unit) => {
-                if !first {
-                    out.push(',')?;
-                }
-                first = false;
-                write!(out, "{unit:04X}")?;
-            }
-            UnitStep::Nothing => {}
-            UnitStep::End => break,
+    for unit in literal.units() {
+        if !first {
+            out.push(',')?;
         }
+        first = false;
+        write!(out, "{unit:04X}")?;
     }
     if first {
         out.push('-')?;
@@ -92,26 +72,14 @@ fn write_fault(out: &mut String, fault: Fault) -> anyhow::Result<()> {
 }
 
 // Writes the faults, joined by commas.
-fn write_faults(
-    out: &mut String,
-    cursor: Cursor<'_>,
-    opening: Opening,
-    start: usize,
-) -> anyhow::Result<()> {
-    let mut reader = FaultReader::new(cursor, opening, start);
+fn write_faults(out: &mut String, literal: Literal<'_>) -> anyhow::Result<()> {
     let mut first = true;
-    for _ in 0..1_000_000u32 {
-        match reader.step() {
-            FaultStep::Fault(fault) => {
-                if !first {
-                    out.push(',')?;
-                }
-                first = false;
-                write_fault(out, fault)?;
-            }
-            FaultStep::Nothing => {}
-            FaultStep::End => break,
+    for fault in literal.faults() {
+        if !first {
+            out.push(',')?;
         }
+        first = false;
+        write_fault(out, fault)?;
     }
     if first {
         out.push('-')?;
@@ -120,7 +88,8 @@ fn write_faults(
 }
 
 // What a look tells, and what the readers of units and faults do.
-fn write_look(out: &mut String, text: Text<'_>, start: usize, seen: Look) -> anyhow::Result<()> {
+fn write_look(out: &mut String, literal: Literal<'_>) -> anyhow::Result<()> {
+    let seen = literal.look();
     let kind = seen.token.kind.word();
     let end = seen.token.end;
     let mark = if seen.token.escaped {
@@ -129,17 +98,13 @@ fn write_look(out: &mut String, text: Text<'_>, start: usize, seen: Look) -> any
         "plain"
     };
     write!(out, "{kind} {end} {mark} ")?;
-    let mut cursor = Cursor::new(text);
-    cursor.move_to(start);
-    let opening = opening_of(cursor.peek());
-    let _ = cursor.next();
-    if seen.cooked {
-        write_units(out, cursor, opening)?;
+    if seen.units.is_some() {
+        write_units(out, literal)?;
     } else {
         out.push_str("none")?;
     }
     out.push(' ')?;
-    write_faults(out, cursor, opening, start)
+    write_faults(out, literal)
 }
 
 // Whether a case gives the answer that its line expects.
@@ -152,8 +117,8 @@ fn agrees(heap: Global, line: &str) -> anyhow::Result<bool> {
     let bytes = unhexed(heap, hex)?;
     let text = Text::new(bytes.as_slice());
     let mut told = String::new(heap);
-    match look(text, start, scan) {
-        Ok(seen) => write_look(&mut told, text, start, seen)?,
+    match Literal::find(text, start, scan) {
+        Ok(literal) => write_look(&mut told, literal)?,
         Err(refusal) => {
             let number = refusal.number();
             write!(told, "refused {number}")?;

@@ -14,6 +14,7 @@ use Rattle.pieces.specs.Pieces.{scan_of}
 use Rattle.look.specs.declared.answer.Scan.{Scan}
 use Rattle.look.specs.declared.answer.Scan.TheVariants.{Str, Template, Resumption}
 use Rattle.look.specs.declared.answer.Look.{Look}
+use Rattle.look.specs.declared.literal.Literal.{Literal}
 use Rattle.look.specs.Looked as looked
 use Rattle.faults.specs.declared.list.FaultList.{FaultList}
 use Rattle.faults.specs.Records as faulty
@@ -22,13 +23,13 @@ use Rattle.slots.specs.Entries.{lookup}
 use Rattle.slots.specs.Views.{entries_of, room_of}
 use Rattle.store.specs.Held.{Held, weighed, dropped}
 use Rattle.ledger.specs.Calls.{scan, Reply, token, refused}
-use Rattle.ledger.specs.Ledger.{sort_of, of_string, in_strings, opens, token_of, needs_entry, needed_records, free_records, free_slots}
+use Rattle.ledger.specs.Ledger.{sort_of, of_string, in_strings, opens, token_of, has_entry, needs_entry, needed_records, free_records, free_slots}
 use Rattle.ledger.proofs.Values.{string_cooked}
 use Rattle.session.specs.declared.Session.{Session}
 use Rattle.session.specs.Views.{limits_of, ledger_of}
 use Rattle.session.specs.Replies.{token_reply}
 use Rattle.session.specs.Calls.{Called, LivesOn}
-use Rattle.session.specs.Scans.{sort_by, Reads, Recorded, Needed, needs, AsNumber, AsOption, Keeps}
+use Rattle.session.specs.Scans.{sort_by, IsRead, Recorded, Needed, needs, AsNumber, AsOption, Keeps}
 use Rattle.session.proofs.Goes.{goes_on}
 use Rattle.session.proofs.Scanning as scanning
 use Rattle.session.proofs.Scanning.{length_recorded}
@@ -61,6 +62,10 @@ Owed w text k s x h a x' h' = record { called : Called w text (scan (sort_by k) 
 owed : (w : List ℕ → ℕ) (text : List ℕ) (k : Scan) (s : ℕ) (x : Session) (h : Held) (a : Reply) (x' : Session) (h' : Held) → Called w text (scan (sort_by k) s) x h a x' h' → Owed w text k s x h a x' h'
 owed w text k s x h a x' h' c = record { called = c; lives = goes_on w text (scan (sort_by k) s) x h a x' h' c }
 
+-- what was found at the start
+abbrev pub Found : List ℕ → ℕ → Scan → Literal → Type 0
+Found text s k l = (l.inside.bytes.now ≡ text) × (l.start ≡ s) × (looked.opens k (get_or text s 0) ≡ true) × (looked.suits k (scan_of l.opening) ≡ true)
+
 -- a refusal passed on
 pub passed_on :
     (w : List ℕ → ℕ) (text : List ℕ) (k : Scan) (s : ℕ) (x : Session) (h : Held) (t : Result Token Refusal) (d e : Refusal) (x' : Session) (h' : Held) → t ≡ Err d → d ≡ e
@@ -69,27 +74,27 @@ passed_on w text k s x h t d e x' h' is same = subst (λ (a : Reply). Owed w tex
 
 module _ (w : List ℕ → ℕ) (nothing : w [] ≡ 0) (text : List ℕ) (k : Scan) (s : ℕ) (x : Session) (h : Held) where
   -- the look is refused
-  pub unseen : (e : Refusal) → looked.Answered text s k (Err e) → Owed w text k s x h (refused (number_of e)) x h
+  pub unseen : (e : Refusal) → looked.Refused text s k e → Owed w text k s x h (refused (number_of e)) x h
   unseen e (inl (n, ge)) = owed w text k s x h (refused (number_of e)) x h (scanning.past_text w nothing text (sort_by k) s x h (number_of e) n ge)
   unseen e (inr (n, lt, other)) = owed w text k s x h (refused (number_of e)) x h (scanning.wrong_opening w nothing text (sort_by k) s x h (number_of e) n lt (sym (opens_same k (get_or text s 0)) ∙ other))
 
-  module _ (seen : Look) (answered : looked.Answered text s k (Ok seen)) where
+  module _ (l : Literal) (found : Found text s k l) (seen : Look) (looks : looked.LookedAt l.inside.bytes.now l.start l.opening seen) where
     lt : s < length text
-    lt = answered.0
+    lt = let n = ap length found.0 in let e = found.1 in omega (arith, l.within)
 
     right : opens (sort_by k) (get_or text s 0) ≡ true
-    right = sym (opens_same k (get_or text s 0)) ∙ answered.1
+    right = sym (opens_same k (get_or text s 0)) ∙ found.2
 
-    pub at : looked.LookedAt text s answered.2.0 seen
-    at = answered.2.2
+    at : looked.LookedAt text s l.opening seen
+    at = subst (λ (z : ℕ). looked.LookedAt text z l.opening seen) found.1 (subst (λ (z : List ℕ). looked.LookedAt z l.start l.opening seen) found.0 looks)
 
-    pub r : Read
+    r : Read
     unfolding at
     r = at.read
 
     sort : sort_of r.scan ≡ sort_by k
     unfolding r at
-    sort = ap sort_of at.scans ∙ sort_same k (scan_of answered.2.0) answered.2.1
+    sort = ap sort_of at.scans ∙ sort_same k (scan_of l.opening) found.3
 
     told : seen.token ≡ token_of r
     unfolding r at
@@ -99,8 +104,12 @@ module _ (w : List ℕ → ℕ) (nothing : w [] ≡ 0) (text : List ℕ) (k : Sc
     unfolding r at
     needed = length_recorded (faults_read r) ∙ sym at.faulted
 
+    read : IsRead l r
+    unfolding r at
+    read = (subst (λ (z : List ℕ). Reading (utf8 z) r) (sym found.0) at.reading, at.from ∙ sym found.1)
+
     -- a string is always cooked
-    pub string_has : of_string (sort_by k) ≡ true → seen.cooked ≡ true
+    pub string_has : of_string (sort_by k) ≡ true → is_some seen.units ≡ true
     unfolding r at
     string_has str = at.cooked ∙ ap is_some (string_cooked (utf8 text) r at.reading (ap of_string sort ∙ str)).1
 
@@ -124,30 +133,33 @@ module _ (w : List ℕ → ℕ) (nothing : w [] ≡ 0) (text : List ℕ) (k : Sc
         -- what was kept, by the table
         module _ (light : weighed w h.values ≤ h.capacity) (x₁ : Session) (h' : Held) where
           abbrev Kept : Bool → Result (Unit {0}) Refusal → Type 0
-          Kept b a = Keeps b w x h s seen.token.escaped (units_read r) a x₁ h'
+          Kept b a = Keeps b w x h seen.token (units_read r) a x₁ h'
 
           abbrev FromKeep : Result (Unit {0}) Refusal → Type 0
-          FromKeep a = (q : Read) → Reads text s q → seen.cooked ≡ is_some (units_read q) → Keeps (of_string (sort_by k)) w x h s seen.token.escaped (units_read q) a x₁ h'
+          FromKeep a = (q : Read) → IsRead l q → is_some seen.units ≡ is_some (units_read q) → Keeps (of_string (sort_by k)) w x h seen.token (units_read q) a x₁ h'
 
           kept : (a : Result (Unit {0}) Refusal) → FromKeep a → Kept (in_strings r) a
-          unfolding r at
-          kept a from = subst (λ (b : Bool). Kept b a) (sym (ap of_string sort)) (from r (at.reading, at.from) at.cooked)
+          unfolding r at read
+          kept a from = subst (λ (b : Bool). Kept b a) (sym (ap of_string sort)) (from r read at.cooked)
 
-          needs_string : in_strings r ≡ true → needs seen.token.escaped x.strings s ≡ needs_entry (ledger_of x (dropped h)) r
+          -- an entry is needed as the ledger says
+          needed_in :
+              {V : Type 0} (holds : Option ℕ → V → Type 0) (t t' : SlotMap V) (a : Result (Unit {0}) Refusal) → is_some (lookup (entries_of t) r.from) ≡ has_entry (ledger_of x (dropped h)) r
+              → Needed (needs seen.token t) holds w t h seen.token.start (units_read r) a t' h' → Needed (needs_entry (ledger_of x (dropped h)) r) holds w t h s (units_read r) a t' h'
           unfolding r at
-          needs_string inside = (λ j. at.marked j && not (is_some (lookup (entries_of x.strings) (sym at.from j)))) ∙ ap (λ (b : Bool). mark_read r && not b) (sym (cond-true _ _ _ inside))
+          needed_in holds t t' a has needed =
+              let same : needs seen.token t ≡ needs_entry (ledger_of x (dropped h)) r =
+              (λ j. at.marked j && not (is_some (lookup (entries_of t) ((at.starts ∙ sym at.from) j)))) ∙ ap (λ (b : Bool). mark_read r && not b) has in
+              subst (λ (n : ℕ). Needed (needs_entry (ledger_of x (dropped h)) r) holds w t h n (units_read r) a t' h') at.starts
+              (subst (λ (b : Bool). Needed b holds w t h seen.token.start (units_read r) a t' h') same needed)
 
-          needs_template : in_strings r ≡ false → needs seen.token.escaped x.templates s ≡ needs_entry (ledger_of x (dropped h)) r
-          unfolding r at
-          needs_template outside = (λ j. at.marked j && not (is_some (lookup (entries_of x.templates) (sym at.from j)))) ∙ ap (λ (b : Bool). mark_read r && not b) (sym (cond-false _ _ _ outside))
-
-          module _ (f : FaultList) (rec : (q : Read) → Reads text s q → length (faulty.faults_of x₁.faults) + length (recorded (faults_read q)) ≤ faulty.room_of x₁.faults → Recorded x₁.faults (recorded (faults_read q)) f) where
+          module _ (f : FaultList) (rec : (q : Read) → IsRead l q → length (faulty.faults_of x₁.faults) + length (recorded (faults_read q)) ≤ faulty.room_of x₁.faults → Recorded x₁.faults (recorded (faults_read q)) f) where
             abbrev Done : Type 0
             Done = Called w text (scan (sort_by k) s) x h (token seen.token) (record { strings = x₁.strings; templates = x₁.templates; faults = f }) h'
 
             recs : x₁.faults ≡ x.faults → Recorded x.faults (recorded (faults_read r)) f
-            unfolding r at
-            recs e = subst (λ (y : FaultList). length (faulty.faults_of y) + length (recorded (faults_read r)) ≤ faulty.room_of y → Recorded y (recorded (faults_read r)) f) e (rec r (at.reading, at.from)) few
+            unfolding r at read
+            recs e = subst (λ (y : FaultList). length (faulty.faults_of y) + length (recorded (faults_read r)) ≤ faulty.room_of y → Recorded y (recorded (faults_read r)) f) e (rec r read) few
 
             string_done : (b : Bool) → in_strings r ≡ true → x₁.templates ≡ x.templates → x₁.faults ≡ x.faults → needs_entry (ledger_of x (dropped h)) r ≡ b → Needed b AsNumber w x.strings h s (units_read r) (Ok tt) x₁.strings h' → Done
             unfolding r at
@@ -163,8 +175,8 @@ module _ (w : List ℕ → ℕ) (nothing : w [] ≡ 0) (text : List ℕ) (k : Sc
 
             done_by : (b : Bool) → in_strings r ≡ b → Kept b (Ok tt) → Done
             unfolding r at
-            done_by true inside (needed, et, ef) = string_done _ inside et ef refl (subst (λ (b : Bool). Needed b AsNumber w x.strings h s (units_read r) (Ok tt) x₁.strings h') (needs_string inside) needed)
-            done_by false outside (needed, ez, ef) = template_done _ outside ez ef refl (subst (λ (b : Bool). Needed b AsOption w x.templates h s (units_read r) (Ok tt) x₁.templates h') (needs_template outside) needed)
+            done_by true inside (needed, et, ef) = string_done _ inside et ef refl (needed_in AsNumber x.strings x₁.strings (Ok tt) (sym (cond-true _ _ _ inside)) needed)
+            done_by false outside (needed, ez, ef) = template_done _ outside ez ef refl (needed_in AsOption x.templates x₁.templates (Ok tt) (sym (cond-false _ _ _ outside)) needed)
 
             pub done : (a : Result (Unit {0}) Refusal) → a ≡ Ok tt → FromKeep a → Owed w text k s x h (token seen.token) (record { strings = x₁.strings; templates = x₁.templates; faults = f }) h'
             unfolding r at
@@ -190,10 +202,10 @@ module _ (w : List ℕ → ℕ) (nothing : w [] ≡ 0) (text : List ℕ) (k : Sc
             undone_by : (b : Bool) → in_strings r ≡ b → Kept b (Err e) → (x₁ ≡ x) × Undone
             unfolding r at
             undone_by true inside (needed, et, ef) =
-                let p = undone_in AsNumber x.strings x₁.strings _ (cond-true _ _ _ inside) refl (subst (λ (b : Bool). Needed b AsNumber w x.strings h s (units_read r) (Err e) x₁.strings h') (needs_string inside) needed) in
+                let p = undone_in AsNumber x.strings x₁.strings _ (cond-true _ _ _ inside) refl (needed_in AsNumber x.strings x₁.strings (Err e) (sym (cond-true _ _ _ inside)) needed) in
                 (λ j. record { strings = p.0 j; templates = et j; faults = ef j }, p.1)
             undone_by false outside (needed, ez, ef) =
-                let p = undone_in AsOption x.templates x₁.templates _ (cond-false _ _ _ outside) refl (subst (λ (b : Bool). Needed b AsOption w x.templates h s (units_read r) (Err e) x₁.templates h') (needs_template outside) needed) in
+                let p = undone_in AsOption x.templates x₁.templates _ (cond-false _ _ _ outside) refl (needed_in AsOption x.templates x₁.templates (Err e) (sym (cond-false _ _ _ outside)) needed) in
                 (λ j. record { strings = ez j; templates = p.0 j; faults = ef j }, p.1)
 
             pub undone : (a : Result (Unit {0}) Refusal) → a ≡ Err e → FromKeep a → Owed w text k s x h (refused (number_of e)) x₁ h'

@@ -6,6 +6,8 @@ use Rattle.grammar.specs.Utf8.{utf8}
 use Rattle.grammar.specs.Reading.{Read, Reading}
 use Rattle.grammar.specs.Outcome.{units_read}
 use Rattle.source.specs.declared.text.Text.{Text}
+use Rattle.tokens.specs.declared.Token.{Token}
+use Rattle.look.specs.declared.literal.Literal.{Literal}
 use Rattle.look.specs.declared.answer.Scan.{Scan}
 use Rattle.look.specs.declared.answer.Scan.TheVariants.{Str, Template, Resumption}
 use Rattle.faults.specs.declared.list.Fault.{Fault}
@@ -26,13 +28,13 @@ sort_by Resumption = resumption
 abbrev pub bytes_of : Text → List ℕ
 bytes_of t = t.bytes.now
 
--- r is the reading of the text from a start
-abbrev pub Reads : List ℕ → ℕ → Read → Type 0
-Reads text s r = Reading (utf8 text) r × (r.from ≡ s)
+-- r is the reading of a literal
+abbrev pub IsRead : Literal → Read → Type 0
+IsRead l r = Reading (utf8 l.inside.bytes.now) r × (r.from ≡ l.start)
 
--- the units of the literal at a start, stored as a value at once
-abbrev pub Stores : (List ℕ → ℕ) → List ℕ → ℕ → Held → Result ℕ Refusal → Held → Type 0
-Stores w text s h a h' = (r : Read) (us : List ℕ) → Reads text s r → units_read r ≡ Some us → (numbered a ≡ keep_told w h us) × (h' ≡ kept w h us)
+-- the units of a literal, stored as a value at once
+abbrev pub Stores : (List ℕ → ℕ) → Literal → Held → Result ℕ Refusal → Held → Type 0
+Stores w l h a h' = (r : Read) (us : List ℕ) → IsRead l r → units_read r ≡ Some us → (numbered a ≡ keep_told w h us) × (h' ≡ kept w h us)
 
 -- a value, or none, is put, and this is its number, or none; or it is not put, for want of a place or of capacity
 
@@ -74,8 +76,8 @@ Needed false holds w x h s u a x' h' = (a ≡ Ok tt) × (x' ≡ x) × (h' ≡ h)
 Needed true holds w x h s u a x' h' = Files holds w x h s u a x' h'
 
 -- a literal needs an entry: it is escaped, and its start has none in the map
-abbrev pub needs : {V : Type 0} → Bool → SlotMap V → ℕ → Bool
-needs escaped x s = escaped && not (is_some (lookup (slotted.entries_of x) s))
+abbrev pub needs : {V : Type 0} → Token → SlotMap V → Bool
+needs t x = t.escaped && not (is_some (lookup (slotted.entries_of x) t.start))
 
 -- a string's entry is a number, a template's a number or none
 
@@ -86,6 +88,6 @@ abbrev pub AsOption : Option ℕ → Option ℕ → Type 0
 AsOption o p = o ≡ p
 
 -- a literal's value, or none, is kept in the table of strings or in that of templates, where an entry is needed; the other table and the faults stay
-abbrev pub Keeps : Bool → (List ℕ → ℕ) → Session → Held → ℕ → Bool → Option (List ℕ) → Result (Unit {0}) Refusal → Session → Held → Type 0
-Keeps true w x h s escaped u a x' h' = Needed (needs escaped x.strings s) AsNumber w x.strings h s u a x'.strings h' × (x'.templates ≡ x.templates) × (x'.faults ≡ x.faults)
-Keeps false w x h s escaped u a x' h' = Needed (needs escaped x.templates s) AsOption w x.templates h s u a x'.templates h' × (x'.strings ≡ x.strings) × (x'.faults ≡ x.faults)
+abbrev pub Keeps : Bool → (List ℕ → ℕ) → Session → Held → Token → Option (List ℕ) → Result (Unit {0}) Refusal → Session → Held → Type 0
+Keeps true w x h t u a x' h' = Needed (needs t x.strings) AsNumber w x.strings h t.start u a x'.strings h' × (x'.templates ≡ x.templates) × (x'.faults ≡ x.faults)
+Keeps false w x h t u a x' h' = Needed (needs t x.templates) AsOption w x.templates h t.start u a x'.templates h' × (x'.strings ≡ x.strings) × (x'.faults ≡ x.faults)

@@ -71,6 +71,7 @@ impl<'a> Session<'a> {
 }
 
 // Every call goes on with every life.
+#[tactic(auto, using(crate::proofs::Goes::goes_on))]
 pub fn calls_go_on() -> u8
     ensures { GoesOn }
 {

@@ -14,6 +14,7 @@ use store::ValueStore;
 
 impl<'a> Session<'a> {
     // The length of the value at a start, or that none is cooked.
+    #[tactic(auto, using(crate::proofs::Asked::an_entry))]
     pub fn value<S: ValueStore>(&self, store: &S, start: usize) -> Result<Option<usize>, Refusal>
         ensures { Asks S.ValueStore.weight (ask.value start) self.now (S.ValueStore.held store.now) (value_reply result) }
     {
@@ -22,6 +23,7 @@ impl<'a> Session<'a> {
     }
 
     // One unit of the value at a start.
+    #[tactic(auto, using(crate::proofs::Asked::a_unit))]
     pub fn unit<S: ValueStore>(&self, store: &S, start: usize, index: usize) -> Result<u16, Refusal>
         ensures { Asks S.ValueStore.weight (ask.unit start index) self.now (S.ValueStore.held store.now) (unit_reply result) }
     {
@@ -31,6 +33,7 @@ impl<'a> Session<'a> {
     }
 
     // How many faults are recorded.
+    #[tactic(auto, using(crate::proofs::Asked::counted_faults))]
     pub fn fault_count<S: ValueStore>(&self, store: &S) -> usize
         ensures { Asks S.ValueStore.weight ask.fault_count self.now (S.ValueStore.held store.now) (ask.counted result) }
     {
@@ -38,6 +41,7 @@ impl<'a> Session<'a> {
     }
 
     // The fault record at an index.
+    #[tactic(auto, using(crate::proofs::Asked::a_fault))]
     pub fn fault_at<S: ValueStore>(&self, store: &S, index: usize) -> Result<Fault, Refusal>
         ensures { Asks S.ValueStore.weight (ask.fault_at index) self.now (S.ValueStore.held store.now) (fault_reply result) }
     {

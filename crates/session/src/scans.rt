@@ -1,5 +1,5 @@
 // The scans: a look, then tests, and only then anything is put, entered or recorded.
-ghost use Rattle.std.specs.Prelude.{◌≡◌, ℕ, ◌+◌, ◌-◌, ◌<◌, ◌≤◌, true, false, ◌&&◌, length, is_some, if◌then◌else◌, Some, None, Ok, Err, slice_index};
+ghost use Rattle.std.specs.Prelude.{◌≡◌, ◌+◌, ◌-◌, ◌<◌, ◌≤◌, true, false, ◌&&◌, length, is_some, if◌then◌else◌};
 ghost use Rattle.grammar.specs.Reading.{Read};
 ghost use Rattle.grammar.specs.Outcome.{units_read, faults_read};
 ghost use Rattle.tokens.specs.Grammar.{recorded};
@@ -7,22 +7,18 @@ ghost use Rattle.slots.specs.Entries.{lookup};
 ghost use Rattle.slots.specs.Views.{entries_of};
 ghost use Rattle.faults.specs.Records.{faults_of, room_of};
 ghost use Rattle.refusals.specs.Numbers.{numbered};
-ghost use Rattle.look.specs.Looked.{opens};
 ghost use Rattle.store.specs.Held.{fits, with_unit, has_place, closed, dropped};
 ghost use Rattle.ledger.specs.Calls as ask;
 ghost use Rattle.ledger.specs.Ledger.{of_string};
 ghost use Rattle.session.specs.Replies.{token_reply};
 ghost use Rattle.session.specs.Calls.{Called, LivesOn};
-ghost use Rattle.session.specs.Scans.{sort_by, bytes_of, Reads, Stores, Recorded, Files, Needed, needs, Keeps};
+ghost use Rattle.session.specs.Scans.{sort_by, bytes_of, IsRead, Stores, Recorded, Files, Needed, needs, Keeps};
 
 use super::Session;
 use super::entry::Entry;
 use faults::FaultList;
 use look::answer::{Look, Scan};
-use look::faulty::FaultStep;
-use look::look::look;
-use look::readers::{faults_at, units_at};
-use look::units::UnitStep;
+use look::literal::Literal;
 use refusals::Refusal;
 use slots::SlotMap;
 use source::text::Text;
@@ -80,12 +76,13 @@ impl<'a> Session<'a> {
         ensures called { Called S.ValueStore.weight (bytes_of text.entry) (ask.scan (sort_by scan) start) self.old (S.ValueStore.held store.old) (token_reply result) self.new (S.ValueStore.held store.new) }
         ensures lives { LivesOn S.ValueStore.weight (bytes_of text.entry) (ask.scan (sort_by scan) start) self.old (S.ValueStore.held store.old) (token_reply result) self.new (S.ValueStore.held store.new) }
     {
-        let seen = look(text, start, scan)?;
+        let literal = Literal::find(text, start, scan)?;
+        let seen = literal.look();
         if seen.faults > free_records(&self.faults) {
             return Err(Refusal::NoRecord);
         }
-        self.keep(store, text, start, scan, seen)?;
-        record(&mut self.faults, text, start, scan);
+        self.keep(store, literal, scan, seen)?;
+        record(&mut self.faults, literal);
         Ok(seen.token)
     }
 
@@ -93,20 +90,16 @@ impl<'a> Session<'a> {
     fn keep<S: ValueStore>(
         &mut self,
         store: &mut S,
-        text: Text<'_>,
-        start: usize,
+        literal: Literal<'_>,
         scan: Scan,
         seen: Look,
     ) -> Result<(), Refusal>
-        requires opened { (start < length (bytes_of text)) × (opens scan (slice_index (bytes_of text) start) ≡ true) }
-        requires cooked { of_string (sort_by scan) ≡ true → seen.cooked ≡ true }
-        ensures { (read : Read) → Reads (bytes_of text.entry) start read → seen.cooked ≡ is_some (units_read read) → Keeps (of_string (sort_by scan)) S.ValueStore.weight self.old (S.ValueStore.held store.old) start seen.token.escaped (units_read read) result self.new (S.ValueStore.held store.new) }
+        requires { of_string (sort_by scan) ≡ true → is_some seen.units ≡ true }
+        ensures { (read : Read) → IsRead literal.entry read → is_some seen.units ≡ is_some (units_read read) → Keeps (of_string (sort_by scan)) S.ValueStore.weight self.old (S.ValueStore.held store.old) seen.token (units_read read) result self.new (S.ValueStore.held store.new) }
     {
         match scan {
-            Scan::Str => keep(&mut self.strings, store, text, start, scan, seen),
-            Scan::Template | Scan::Resumption => {
-                keep(&mut self.templates, store, text, start, scan, seen)
-            }
+            Scan::Str => keep(&mut self.strings, store, literal, seen),
+            Scan::Template | Scan::Resumption => keep(&mut self.templates, store, literal, seen),
         }
     }
 }
@@ -115,42 +108,36 @@ impl<'a> Session<'a> {
 fn keep<S: ValueStore, V: Entry>(
     entries: &mut SlotMap<'_, V>,
     store: &mut S,
-    text: Text<'_>,
-    start: usize,
-    scan: Scan,
+    literal: Literal<'_>,
     seen: Look,
 ) -> Result<(), Refusal>
-    requires opened { (start < length (bytes_of text)) × (opens scan (slice_index (bytes_of text) start) ≡ true) }
-    requires cooked { V.always ≡ true → seen.cooked ≡ true }
-    ensures { (read : Read) → Reads (bytes_of text.entry) start read → seen.cooked ≡ is_some (units_read read) → Needed (needs seen.token.escaped entries.old start) V.holds S.ValueStore.weight entries.old (S.ValueStore.held store.old) start (units_read read) result entries.new (S.ValueStore.held store.new) }
+    requires { V.always ≡ true → is_some seen.units ≡ true }
+    ensures { (read : Read) → IsRead literal.entry read → is_some seen.units ≡ is_some (units_read read) → Needed (needs seen.token entries.old) V.holds S.ValueStore.weight entries.old (S.ValueStore.held store.old) seen.token.start (units_read read) result entries.new (S.ValueStore.held store.new) }
 {
-    if !seen.token.escaped || entries.find(start).is_some() {
+    if !seen.token.escaped || entries.find(seen.token.start).is_some() {
         return Ok(());
     }
-    file(entries, store, text, start, scan, seen.cooked)
+    file(entries, store, literal, seen)
 }
 
 // Stores a literal's units, if a value is cooked, and enters the value's number or none, if there are a slot, a place and capacity.
 fn file<S: ValueStore, V: Entry>(
     entries: &mut SlotMap<'_, V>,
     store: &mut S,
-    text: Text<'_>,
-    start: usize,
-    scan: Scan,
-    cooked: bool,
+    literal: Literal<'_>,
+    seen: Look,
 ) -> Result<(), Refusal>
-    requires opened { (start < length (bytes_of text)) × (opens scan (slice_index (bytes_of text) start) ≡ true) }
-    requires cooked { V.always ≡ true → cooked ≡ true }
-    ensures { (read : Read) → Reads (bytes_of text.entry) start read → cooked ≡ is_some (units_read read) → is_some (lookup (entries_of entries.old) start) ≡ false → Files V.holds S.ValueStore.weight entries.old (S.ValueStore.held store.old) start (units_read read) result entries.new (S.ValueStore.held store.new) }
+    requires { V.always ≡ true → is_some seen.units ≡ true }
+    ensures { (read : Read) → IsRead literal.entry read → is_some seen.units ≡ is_some (units_read read) → is_some (lookup (entries_of entries.old) seen.token.start) ≡ false → Files V.holds S.ValueStore.weight entries.old (S.ValueStore.held store.old) seen.token.start (units_read read) result entries.new (S.ValueStore.held store.new) }
 {
     if entries.count() >= entries.room() {
         return Err(Refusal::NoSlot);
     }
-    if !cooked {
-        return entries.insert(start, V::of(None));
+    if seen.units.is_none() {
+        return entries.insert(seen.token.start, V::of(None));
     }
-    let number = put_units(store, text, start, scan)?;
-    entries.insert(start, V::of(Some(number)))
+    let number = put_units(store, literal)?;
+    entries.insert(seen.token.start, V::of(Some(number)))
 }
 
 // How many records are free.
@@ -162,28 +149,18 @@ fn free_records(faults: &FaultList<'_>) -> usize
 
 // Puts a literal's units into the store's open value and finishes it. What a stranger left open is dropped first, unless there is no place for one more value;
 // where the units do not fit, none of them stays.
-fn put_units<S: ValueStore>(
-    store: &mut S,
-    text: Text<'_>,
-    start: usize,
-    scan: Scan,
-) -> Result<usize, Refusal>
-    requires { (start < length (bytes_of text)) × (opens scan (slice_index (bytes_of text) start) ≡ true) }
-    ensures { Stores S.ValueStore.weight (bytes_of text.entry) start (S.ValueStore.held store.old) result (S.ValueStore.held store.new) }
+fn put_units<S: ValueStore>(store: &mut S, literal: Literal<'_>) -> Result<usize, Refusal>
+    ensures { Stores S.ValueStore.weight literal.entry (S.ValueStore.held store.old) result (S.ValueStore.held store.new) }
 {
     if store.count() >= store.places() {
         return Err(Refusal::NoPlace);
     }
     store.drop_open();
-    let mut reader = units_at(text, start, scan);
     let mut fits = true;
-    'units: loop {
-        match reader.step() {
-            UnitStep::Unit(unit) => fits = put_on(store, unit, fits),
-            UnitStep::Nothing => {}
-            UnitStep::End => return finish(store, fits),
-        }
+    for unit in literal.units() {
+        fits = put_on(store, unit, fits);
     }
+    finish(store, fits)
 }
 
 // One unit more, as long as all before it fitted.
@@ -211,18 +188,10 @@ fn finish<S: ValueStore>(store: &mut S, fitted: bool) -> Result<usize, Refusal>
 }
 
 // Records a literal's faults, as far as there are records.
-fn record(faults: &mut FaultList<'_>, text: Text<'_>, start: usize, scan: Scan)
-    requires { (start < length (bytes_of text)) × (opens scan (slice_index (bytes_of text) start) ≡ true) }
-    ensures { (read : Read) → Reads (bytes_of text.entry) start read → length (faults_of faults.old) + length (recorded (faults_read read)) ≤ room_of faults.old → Recorded faults.old (recorded (faults_read read)) faults.new }
+fn record(faults: &mut FaultList<'_>, literal: Literal<'_>)
+    ensures { (read : Read) → IsRead literal.entry read → length (faults_of faults.old) + length (recorded (faults_read read)) ≤ room_of faults.old → Recorded faults.old (recorded (faults_read read)) faults.new }
 {
-    let mut reader = faults_at(text, start, scan);
-    'faults: loop {
-        match reader.step() {
-            FaultStep::Fault(fault) => {
-                let _ = faults.append(fault);
-            }
-            FaultStep::Nothing => {}
-            FaultStep::End => return,
-        }
+    for fault in literal.faults() {
+        let _ = faults.append(fault);
     }
 }

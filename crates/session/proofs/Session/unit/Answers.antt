@@ -1,7 +1,7 @@
 use Rattle.std.proofs.Common.{◌≡◌, Some, sym, ap, ◌∙◌, arith}
 use Rattle.std.proofs.lemmas.Result.{err_from_is_err_and}
 use Rattle.refusals.specs.declared.Refusal.TheVariants.{IndexPastEnd, NoEntry}
-use Rattle.session.proofs.Asked.{missing, no_entry_unit, no_value_unit, a_unit}
+use Rattle.session.proofs.Asked.{missing, no_entry_unit, no_value_unit}
 use Rattle.session.proofs.Session.unit.Goals as goal
 
 pub returns-in_err-number : goal.returns-in_err-number
@@ -16,10 +16,3 @@ returns-in_err-n g c =
     let m = missing c.in_ok-number.number IndexPastEnd _ _ _ _ c.ok_or-2.ensures.value c.in_err-n.was p.1 p.2 in
     let is : Some c.in_ok-number.number ≡ c.entry.result = grind (arith, c.in_ok-number.ensures, c.in_ok-number.was) in
     no_value_unit g.S.ValueStore.weight c.args.self.now (g.S.ValueStore.held c.args.store.now) c.args.start c.args.index _ m.1 (ap Some (sym m.0) ∙ is ∙ c.entry.ensures)
-
-pub returns : goal.returns
-returns g c =
-    let is : Some c.in_ok-number.number ≡ c.entry.result = grind (arith, c.in_ok-number.ensures, c.in_ok-number.was) in
-    let has : Some c.in_ok-n.n ≡ c.in_ok-number.number = grind (arith, c.in_ok-n.ensures, c.in_ok-n.was) in
-    a_unit g.S.ValueStore.weight c.args.self.now (g.S.ValueStore.held c.args.store.now) c.args.start c.args.index c.in_ok-n.n c.value_unit.result c.value_unit.ensures
-    (ap Some has ∙ is ∙ c.entry.ensures)

@@ -1,13 +1,8 @@
-use Rattle.std.proofs.Common.{rules}
-use Rattle.session.specs.Scans.{bytes_of}
-use Rattle.session.proofs.Recording.{one_more, finished}
+use Rattle.session.proofs.Recording.{drained, finished}
 use Rattle.session.proofs.scans.record.Goals as goal
 
-pub faults-preserved-in-Fault : goal.faults-preserved-in-Fault
-faults-preserved-in-Fault c =
-    let told = c.in-Fault.ensures.told c.faults.invariant.given c.faults.invariant.told in
-    one_more c.args.faults.now (bytes_of c.args.text) c.args.start c.faults.reader _ c.faults.invariant c.in-Fault.fault _ (search rules) (search rules) (search rules)
-    _ told.0 c.in-Fault.ensures.same.0 c.in-Fault.ensures.same.2
-
-pub returns-in-End : goal.returns-in-End
-returns-in-End c = finished c.args.faults.now (bytes_of c.args.text) c.args.start c.faults.reader _ c.faults.invariant c.faults.reader.opening (c.in-End.ensures.told c.faults.invariant.given c.faults.invariant.told)
+pub returns : goal.returns
+returns c r reads =
+    let all = drained c.args.literal c.faults-fault-items.result c.into_iter-fault-iterator.result c.loop-fault.yielded c.faults-fault-items.ensures.literal c.faults-fault-items.ensures.told c.into_iter-fault-iterator.ensures.into_iter_gives
+    (c.next.new.self, (c.loop-fault.fault-iterator, c.loop-fault.yielded_by, c.in-None.ensures.steps)) in
+    finished c.args.faults.now c.loop-fault.yielded c.loop-fault.faults c.loop-fault.invariant c.args.literal all r reads
