@@ -1,3 +1,4 @@
 mod Carrying
 mod Asking
 mod Answering
+mod Printing

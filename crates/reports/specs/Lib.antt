@@ -1,2 +1,3 @@
 pub mod Transcript
 pub mod Answers
+pub mod Printed

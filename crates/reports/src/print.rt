@@ -1,8 +1,13 @@
 // The lines that an output is printed as.
+ghost use Rattle.std.specs.Prelude.{Some};
+ghost use Rattle.reports.specs.Printed.{line_text, listed, report_text, answer_text};
+
 use super::report::{Line, Output, Report, Told};
 use std::fmt;
 
 impl fmt::Display for Output {
+    ghost output = { λ output. Some (answer_text output.0) };
+
     fn fmt<W: fmt::Write>(&self, f: &mut fmt::Formatter<W>) -> fmt::Result {
         match &self.0 {
             Ok(report) => write!(f, "{report}"),
@@ -13,6 +18,8 @@ impl fmt::Display for Output {
 
 // A line for each command, how many faults there are, and a line for each of them.
 impl fmt::Display for Report {
+    ghost output = { λ report. Some (report_text report) };
+
     fn fmt<W: fmt::Write>(&self, f: &mut fmt::Formatter<W>) -> fmt::Result {
         let lines = Listed(self.lines.as_slice());
         let count = self.faults.len();
@@ -26,6 +33,8 @@ impl fmt::Display for Report {
 struct Listed<'a, T>(&'a [T]);
 
 impl<T: fmt::Display> fmt::Display for Listed<'_, T> {
+    ghost output = { λ items. listed T.output items.0.now };
+
     fn fmt<W: fmt::Write>(&self, f: &mut fmt::Formatter<W>) -> fmt::Result {
         for item in self.0 {
             writeln!(f, "{item}")?;
@@ -36,6 +45,8 @@ impl<T: fmt::Display> fmt::Display for Listed<'_, T> {
 
 // A token; a value's start, and its units in four capital hex digits each; or why the command was turned down.
 impl fmt::Display for Line {
+    ghost output = { λ line. Some (line_text line) };
+
     fn fmt<W: fmt::Write>(&self, f: &mut fmt::Formatter<W>) -> fmt::Result {
         let start = self.command.start;
         match &self.told {
