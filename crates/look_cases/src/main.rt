@@ -1,53 +1,25 @@
-// Replays data/cases.txt: looks at literals, with their units and faults, each with the answer expected of it.
+//! Replays data/cases.txt: looks at literals, with their units and faults, each with the answer expected of it.
 #![tactic(auto)]
 
-use anyhow::anyhow;
+use anyhow::bail;
 use faults::Fault;
 use look::answer::{Look, Scan};
 use look::faulty::{FaultReader, FaultStep};
 use look::look::look;
 use look::units::{UnitReader, UnitStep};
 use pieces::piece::Opening;
+use replaying::{cut, replay, unhexed};
 use source::cursor::Cursor;
 use source::text::Text;
 use std::alloc::Global;
 use std::fmt::Write;
-use std::fs;
-
-// The bytes that a word of hex digits writes; `-` writes none.
-fn unhexed(heap: Global, word: &str) -> anyhow::Result<Vec<u8>> {
-    let mut bytes = Vec::new(heap);
-    let mut high: Option<u8> = None;
-    for c in word.chars() {
-        let Some(digit) = c.to_digit(16) else {
-            return Ok(bytes);
-        };
-        let low = (digit & 15) as u8;
-        match high {
-            None => high = Some(low),
-            Some(h) => {
-                bytes.push((h & 15) * 16 + low)?;
-                high = None;
-            }
-        }
-    }
-    Ok(bytes)
-}
-
-// One more word of a line.
-fn cut(line: &str) -> anyhow::Result<(&str, &str)> {
-    match line.split_once(' ') {
-        Some((word, rest)) => Ok((word, rest)),
-        None => Err(anyhow!("a line is too short")),
-    }
-}
 
 fn scan_named(word: &str) -> anyhow::Result<Scan> {
     match word {
         "string" => Ok(Scan::Str),
         "template" => Ok(Scan::Template),
         "resume" => Ok(Scan::Resumption),
-        _ => Err(anyhow!("no such scan")),
+        _ => bail!("no such scan"),
     }
 }
 
@@ -84,10 +56,8 @@ fn write_units(out: &mut String, cursor: Cursor<'_>, opening: Opening) -> anyhow
 }
 
 fn write_fault(out: &mut String, fault: Fault) -> anyhow::Result<()> {
-    let number = fault.kind.number();
-    let from = fault.from;
-    let to = fault.to;
-    write!(out, "{number}:{from}:{to}")?;
+    let Fault { kind, from, to } = fault;
+    write!(out, "{}:{from}:{to}", kind.number())?;
     Ok(())
 }
 
@@ -121,7 +91,7 @@ fn write_faults(
 
 // What a look tells, and what the readers of units and faults do.
 fn write_look(out: &mut String, text: Text<'_>, start: usize, seen: Look) -> anyhow::Result<()> {
-    let kind = seen.token.kind.word();
+    let kind = seen.token.kind;
     let end = seen.token.end;
     let mark = if seen.token.escaped {
         "escaped"
@@ -154,30 +124,14 @@ fn agrees(heap: Global, line: &str) -> anyhow::Result<bool> {
     let mut told = String::new(heap);
     match look(text, start, scan) {
         Ok(seen) => write_look(&mut told, text, start, seen)?,
-        Err(refusal) => {
-            let number = refusal.number();
-            write!(told, "refused {number}")?;
-        }
+        Err(refusal) => write!(told, "refused {refusal}")?,
     }
     Ok(told.as_str() == expected)
 }
 
-fn replay(rt: &HostRuntime) -> anyhow::Result<()> {
-    let text = fs::read_to_string(rt, "cases.txt")?;
-    let mut same = 0u64;
-    let mut other = 0u64;
-    for line in text.as_str().lines() {
-        if agrees(rt.alloc(), line)? {
-            same = same.saturating_add(1);
-        } else {
-            other = other.saturating_add(1);
-            println!(rt; "differs: {line}")?;
-        }
-    }
-    println!(rt; "{same} agree, {other} differ")?;
-    Ok(())
-}
-
 fn main(rt: HostRuntime) -> anyhow::Result<()> {
-    replay(&rt)
+    let heap = rt.alloc();
+    let tally = replay(&rt, "cases.txt", |line| agrees(heap, line))?;
+    println!(rt; "{tally}")?;
+    Ok(())
 }
