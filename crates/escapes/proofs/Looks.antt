@@ -12,13 +12,18 @@ use Rattle.grammar.specs.Rule.{Span, Ahead, but, among}
 use Rattle.grammar.specs.Production.{points}
 use Rattle.grammar.proofs.Ascii.{ascii_at, low, among_low, lookahead_not_at}
 use Rattle.grammar.proofs.Utf8.{spelt_stand, nothing_past}
+use Rattle.source.specs.declared.cursor.Cursor.{Cursor}
 use Rattle.source.specs.Fronts.{Begins}
 use Rattle.source.specs.Texts.{CharAt, WellFormed}
 use Rattle.source.proofs.Known.{utf8_from}
 use Rattle.escapes.specs.Places.{At, Stands, Here}
 
+-- a cursor's place
+pub at_cursor : (c : Cursor) → At c.bytes.now c.place.at
+at_cursor c = record { text = utf8_from c.bytes.now c.well; boundary = c.boundary }
+
 -- a cursor's character
-stands : (bs : List ℕ) (p c q : ℕ) → At bs p → CharAt bs p (Some (c, q)) → Stands bs p c q
+pub stands : (bs : List ℕ) (p c q : ℕ) → At bs p → CharAt bs p (Some (c, q)) → Stands bs p c q
 stands bs p c q a (s, e, w) =
     let f : drop p bs ≡ encode c ++ drop (p + len_utf8 c) bs = subst (λ (z : ℕ). drop p bs ≡ encode c ++ drop z bs) w e in
     record {

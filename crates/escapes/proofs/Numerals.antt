@@ -1,12 +1,16 @@
 -- Hex digits in a row, from what the digit reader saw. Assumes nothing.
-use Rattle.std.proofs.Common.{◌≡◌, ℕ, ◌+◌, ◌*◌, ◌<◌, ◌≤◌, T, List, [], ◌∷◌, ◌++◌, length, sym, refl, subst, arith, length-append}
+use Rattle.std.proofs.Common.{◌≡◌, ℕ, ◌+◌, ◌*◌, ◌<◌, ◌≤◌, true, T, List, [], ◌∷◌, ◌++◌, length, Some, None, sym, refl, ◌∙◌, subst, arith, length-append}
+use Rattle.std.specs.Iterator.{Yields}
 use Rattle.grammar.specs.Text.{Text}
 use Rattle.grammar.specs.Utf8.{utf8}
-use Rattle.grammar.specs.Rule.{member, hex_digit, hex_digits, digit, Run, mv, just_above, meets}
+use Rattle.grammar.specs.Rule.{Ahead, but, member, hex_digit, hex_digits, digit, Run, mv, just_above, meets}
 use Rattle.grammar.specs.Production.{code_point}
 use Rattle.grammar.proofs.Digits.{run_push, mv_push, meets_most, meets_lifted}
+use Rattle.source.specs.declared.cursor.Cursor.{Cursor}
 use Rattle.escapes.specs.Places.{At}
-use Rattle.escapes.specs.Digits.{Digit, Digits}
+use Rattle.escapes.specs.Digits.{Digit, Digits, TakesHex, Skipped}
+use Rattle.escapes.specs.declared.digits.HexDigits.{HexDigits}
+use Rattle.escapes.proofs.Looks.{at_cursor}
 
 pub length_more : (ds : List ℕ) (d : ℕ) → length (ds ++ d ∷ []) ≡ length ds + 1
 length_more ds d = length-append ds (d ∷ [])
@@ -43,6 +47,47 @@ digits_small bs p v q n x l h = let k = run_small (utf8 bs) p q x.chars x.run (o
 pub digits_done : (bs : List ℕ) (p v q r n : ℕ) → (x : Digits bs p v q) → length x.chars ≡ n → r ≡ q → (y : Digits bs p v r) × (length y.chars ≡ n)
 digits_done bs p v q r n x l e = subst (λ (z : ℕ). (y : Digits bs p v z) × (length y.chars ≡ n)) (sym e) (x, l)
 
+-- a reader of digits that began at p took n of them, with value v
+pub record Took (bs : List ℕ) (p : ℕ) (r : HexDigits) (v n : ℕ) : Type 0 where
+  pub text : r.cursor.bytes.now ≡ bs
+  pub digits : Digits bs p v r.cursor.place.at
+  pub count : length digits.chars ≡ n
+
+pub took_none : (c : Cursor) → Took c.bytes.now c.place.at (record { cursor = c }) 0 0
+took_none c = let d = digits_none c.bytes.now c.place.at c.place.at refl (at_cursor c) in record { text = refl; digits = d.0; count = d.1 }
+
+pub took_more : (bs : List ℕ) (p v n d : ℕ) (r s : HexDigits) → Took bs p r v n → TakesHex r (Some d) s → Took bs p s (v * 16 + d) (n + 1)
+took_more bs p v n d r s t (e, f, g, _) =
+    let x = digits_more bs p v r.cursor.place.at s.cursor.place.at n d f t.digits t.count (subst (λ (z : List ℕ). Digit hex_digits z r.cursor.place.at d) t.text g) in
+    record { text = e ∙ t.text; digits = x.0; count = x.1 }
+
+pub took_first : (c : Cursor) (d : ℕ) (s : HexDigits) → TakesHex (record { cursor = c }) (Some d) s → Took c.bytes.now c.place.at s d 1
+took_first c d s h = subst (λ (z : ℕ). Took c.bytes.now c.place.at s z 1) (omega arith) (took_more c.bytes.now c.place.at 0 0 d (record { cursor = c }) s (took_none c) h)
+
+pub took_end : (bs : List ℕ) (p v n : ℕ) (r s : HexDigits) → Took bs p r v n → TakesHex r None s → Took bs p s v n × Ahead (utf8 bs s.cursor.place.at) (but hex_digits) true
+took_end bs p v n r s t (e, f, g) =
+    let x = digits_done bs p v r.cursor.place.at s.cursor.place.at n t.digits t.count f in (
+      record { text = e ∙ t.text; digits = x.0; count = x.1 },
+      subst (λ (z : ℕ). Ahead (utf8 bs z) (but hex_digits) true) (sym f) (subst (λ (z : List ℕ). Ahead (utf8 z r.cursor.place.at) (but hex_digits) true) t.text g),
+    )
+
+pub took_small : (bs : List ℕ) (p v n : ℕ) (r : HexDigits) → Took bs p r v n → n < 4 → v < 4096
+took_small bs p v n r t l = digits_small bs p v r.cursor.place.at n t.digits t.count l
+
+-- all of them
+pub took_all : (bs : List ℕ) (p v n : ℕ) (r s : HexDigits) (ds : List ℕ) → Took bs p r v n → Yields TakesHex r ds s → (w : ℕ) × Took bs p s w (n + length ds)
+took_all bs p v n r s [] t e = (v, subst (λ (z : ℕ). Took bs p s v z) (omega arith) (subst (λ (z : HexDigits). Took bs p z v n) e t))
+took_all bs p v n r s (d ∷ ds) t (j, k, l) =
+    let (w, x) = took_all bs p (v * 16 + d) (n + 1) j s ds (took_more bs p v n d r j t k) l in
+    (w, subst (λ (z : ℕ). Took bs p s w z) (omega arith) x)
+
+pub skipped : (c : Cursor) (r s : HexDigits) (ds : List ℕ) (q : ℕ) → Yields TakesHex (record { cursor = c }) ds r → TakesHex r None s → q ≡ c.place.at + length ds → Skipped c.bytes.now c.place.at q
+skipped c r s ds q y e f =
+    let (v, t) = took_all c.bytes.now c.place.at 0 0 (record { cursor = c }) r ds (took_none c) y in
+    let (u, a) = took_end c.bytes.now c.place.at v (0 + length ds) r s t e in
+    let g : q ≡ s.cursor.place.at = omega (arith, u.digits.moves, u.count) in
+    subst (Skipped c.bytes.now c.place.at) (sym g) (v, u.digits, a)
+
 -- code points
 pub digits_lift : (bs : List ℕ) (p v q r n d : ℕ) → r ≡ q + 1 → (x : Digits bs p v q) → length x.chars ≡ n → Digit hex_digits bs q d → v ≤ 1114111 → 1114111 < v * 16 + d → (w : ℕ) × (y : Digits bs p w r) × T (meets (just_above 0x10FFFF) y.chars)
 unfolding digits_more
@@ -56,9 +101,10 @@ digits_fit bs p v q x l h = go x.chars l (omega (arith, x.value))
     go [] l k = absurd (omega arith)
     go (d ∷ ds) l k = meets_most 1114111 d ds k
 
-pub digits_first : (bs : List ℕ) (p d : ℕ) → Digit hex_digits bs p d → (y : Digits bs p d (p + 1)) × (0 < length y.chars)
-digits_first bs p d y =
-    (record { chars = y.char ∷ []; run = (p + 1, y.here.step, y.belongs, refl); value = omega (arith, y.value); behind = y.here.behind; moves = refl }, omega arith)
+pub took_lift : (bs : List ℕ) (p v n d : ℕ) (r s : HexDigits) → Took bs p r v n → v ≤ 1114111 → TakesHex r (Some d) s → 1114111 < v * 16 + d
+    → (w : ℕ) × (y : Digits bs p w s.cursor.place.at) × T (meets (just_above 0x10FFFF) y.chars)
+took_lift bs p v n d r s t l (_, f, g, _) k =
+    digits_lift bs p v r.cursor.place.at s.cursor.place.at n d f t.digits t.count (subst (λ (z : List ℕ). Digit hex_digits z r.cursor.place.at d) t.text g) l k
 
-pub digits_next : (bs : List ℕ) (p v q d : ℕ) → Digits bs p v q → Digit hex_digits bs q d → (y : Digits bs p (v * 16 + d) (q + 1)) × (0 < length y.chars)
-digits_next bs p v q d x y = let z = digits_more bs p v q (q + 1) (length x.chars) d refl x refl y in (z.0, omega (arith, z.1))
+pub took_fit : (bs : List ℕ) (p v n : ℕ) (r : HexDigits) → (t : Took bs p r v n) → 0 < n → v ≤ 1114111 → T (meets code_point t.digits.chars)
+took_fit bs p v n r t l m = digits_fit bs p v r.cursor.place.at t.digits (omega (arith, t.count)) m

@@ -1,5 +1,5 @@
 -- The escape read behind a backslash, as steps of a reading. Assumes nothing.
-use Rattle.std.proofs.Common.{◌≡◌, ℕ, ◌<◌, Bool, true, false, ◌||◌, List, [], ◌∷◌, ◌++◌, drop, Some, None, Option, sym, refl, ap, ◌∙◌, subst, inl, inr}
+use Rattle.std.proofs.Common.{◌≡◌, ℕ, ◌<◌, Bool, true, false, ◌||◌, List, [], ◌∷◌, ◌++◌, drop, Some, None, Option, Ok, Err, Result, sym, refl, ap, ◌∙◌, subst, inl, inr}
 use Rattle.grammar.specs.Text.{Text, Spot, over, char}
 use Rattle.grammar.specs.Utf8.{utf8}
 use Rattle.grammar.specs.Rule.{Rule, ◌▸◌, only, absent, Ahead, Matches, mv, codes}
@@ -14,8 +14,8 @@ use Rattle.grammar.proofs.Chains.{chain_append, units_append, faults_append, mar
 use Rattle.grammar.proofs.Leaves.{takes}
 use Rattle.escapes.specs.Places.{At}
 use Rattle.escapes.specs.Escapes.{behind_rule, Alone, Joined, Wrong, Behind, Part, is_template, units_told, faults_told, EscapeRead, listed, reached}
-use Rattle.escapes.specs.declared.unicode.Escape.{Escape}
-use Rattle.escapes.specs.declared.unicode.Escape.TheVariants.{Gives, Invalid}
+use Rattle.escapes.specs.declared.unicode.Given.{Given}
+use Rattle.escapes.specs.declared.unicode.Invalid.{Invalid}
 
 pub append-nil : {A : Type 0} (xs : List A) → xs ++ [] ≡ xs
 append-nil [] = refl
@@ -113,28 +113,24 @@ joined_part body t b p q us e x =
     let y = part_join body t b x.middle q _ _ _ _ _ _ (half b p x.middle x.highs e x.first_matches) (half x.middle x.second q x.lows x.backslash x.second_matches) in
     record { nodes = y.nodes; chain = y.chain; units = y.units ∙ ap Some (sym x.units); faulted = y.faulted; marked = y.marked }
 
-wrong_part : (body : Body) (t : Text) (b p q : ℕ) → t b ≡ char 92 p → Wrong (is_template body) t p q → Part body t b (units_told (is_template body) (Invalid q)) (faults_told (is_template body) b (Invalid q)) true q
-wrong_part double t b p q e (k, cs, m) = one_step double t (bad k) b q (92 ∷ cs) (with_backslash t b p q (bad_escape k) cs e m)
-wrong_part single t b p q e (k, cs, m) = one_step single t (bad k) b q (92 ∷ cs) (with_backslash t b p q (bad_escape k) cs e m)
-wrong_part template t b p q e (n, cs, m) = one_step template t (proper (not_escape n)) b q (92 ∷ cs) (with_backslash t b p q (not_escape_sequence n) cs e m)
+wrong_part : (body : Body) (t : Text) (b p : ℕ) (e : Invalid) → t b ≡ char 92 p → Wrong (is_template body) t p e.next → Part body t b (units_told (is_template body) (Err e)) (faults_told (is_template body) b (Err e)) true e.next
+wrong_part double t b p e i (k, cs, m) = one_step double t (bad k) b e.next (92 ∷ cs) (with_backslash t b p e.next (bad_escape k) cs i m)
+wrong_part single t b p e i (k, cs, m) = one_step single t (bad k) b e.next (92 ∷ cs) (with_backslash t b p e.next (bad_escape k) cs i m)
+wrong_part template t b p e i (n, cs, m) = one_step template t (proper (not_escape n)) b e.next (92 ∷ cs) (with_backslash t b p e.next (not_escape_sequence n) cs i m)
 
-part_of : (bs : List ℕ) (p : ℕ) (e : Escape) (body : Body) → Behind (is_template body) bs p e → (b : ℕ) → utf8 bs b ≡ char 92 p → Part body (utf8 bs) b (units_told (is_template body) e) (faults_told (is_template body) b e) true (reached e)
-part_of bs p (Gives us q) body (inl x, _, _) b h = alone_part body (utf8 bs) b p q (listed us) h x
-part_of bs p (Gives us q) body (inr x, _, _) b h = joined_part body (utf8 bs) b p q (listed us) h x
-part_of bs p (Invalid q) body (x, _, _) b h = wrong_part body (utf8 bs) b p q h x
+part_of : (bs : List ℕ) (p : ℕ) (e : Result Given Invalid) (body : Body) → Behind (is_template body) bs p e → (b : ℕ) → utf8 bs b ≡ char 92 p → Part body (utf8 bs) b (units_told (is_template body) e) (faults_told (is_template body) b e) true (reached e)
+part_of bs p (Ok g) body (inl x, _, _) b h = alone_part body (utf8 bs) b p g.next (listed g.units) h x
+part_of bs p (Ok g) body (inr x, _, _) b h = joined_part body (utf8 bs) b p g.next (listed g.units) h x
+part_of bs p (Err e) body (x, _, _) b h = wrong_part body (utf8 bs) b p e h x
 
-behind_at : (m : Bool) (bs : List ℕ) (p : ℕ) (e : Escape) → Behind m bs p e → At bs (reached e) × (p < reached e)
-behind_at m bs p (Gives us q) x = (x.1, x.2)
-behind_at m bs p (Invalid q) x = (x.1, x.2)
+behind_at : (m : Bool) (bs : List ℕ) (p : ℕ) (e : Result Given Invalid) → Behind m bs p e → At bs (reached e) × (p < reached e)
+behind_at m bs p (Ok g) x = (x.1, x.2)
+behind_at m bs p (Err e) x = (x.1, x.2)
 
-escape_read : (m : Bool) (bs : List ℕ) (p : ℕ) (e : Escape) → Behind m bs p e → EscapeRead m bs p (Some e)
+pub escape_read : (m : Bool) (bs : List ℕ) (p : ℕ) (e : Result Given Invalid) → Behind m bs p e → EscapeRead m bs p (Some e)
 escape_read m bs p e x =
     let a = behind_at m bs p e x in (
       (λ body b i h. subst (λ (z : Bool). Part body (utf8 bs) b (units_told z e) (faults_told z b e) true (reached e)) i (part_of bs p e body (subst (λ (z : Bool). Behind z bs p e) (sym i) x) b h)),
       a.0,
       a.1,
     )
-
--- the same of a cursor's bytes and place as calls told them
-pub escape_read_by : (m : Bool) (bs bs' : List ℕ) (p p' : ℕ) (e : Escape) → bs' ≡ bs → p' ≡ p → Behind m bs' p' e → EscapeRead m bs p (Some e)
-escape_read_by m bs bs' p p' e f g x = escape_read m bs p e (subst (λ (z : ℕ). Behind m bs z e) g (subst (λ (z : List ℕ). Behind m z p' e) f x))

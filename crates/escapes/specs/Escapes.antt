@@ -1,5 +1,5 @@
 -- What the readers of escapes answer: steps of a reading from the backslash on, with their units and faults. Assumes nothing.
-use Rattle.std.specs.Prelude.{◌≡◌, ℕ, ◌+◌, ◌<◌, ◌≤◌, Bool, true, false, cond, T, ◌⊎◌, List, [], ◌∷◌, length, drop, Some, None, Option}
+use Rattle.std.specs.Prelude.{◌≡◌, ℕ, ◌+◌, ◌<◌, ◌≤◌, Bool, true, false, cond, T, ◌⊎◌, List, [], ◌∷◌, length, drop, Some, None, Option, Ok, Err, Result}
 use Rattle.grammar.specs.Text.{Text, over, char}
 use Rattle.grammar.specs.Utf8.{utf8}
 use Rattle.grammar.specs.Rule.{Rule, absent, Matches, only, member, mv, digit}
@@ -17,8 +17,8 @@ use Rattle.escapes.specs.declared.unicode.Units.{Units}
 use Rattle.escapes.specs.declared.unicode.Units.TheVariants.{Nothing, One, Two}
 use Rattle.escapes.specs.declared.unicode.UnicodeEscape.{UnicodeEscape}
 use Rattle.escapes.specs.declared.unicode.UnicodeEscape.TheVariants.{CodePoint, SurrogatePair, LoneSurrogate}
-use Rattle.escapes.specs.declared.unicode.Escape.{Escape}
-use Rattle.escapes.specs.declared.unicode.Escape.TheVariants.{Gives, Invalid}
+use Rattle.escapes.specs.declared.unicode.Given.{Given}
+use Rattle.escapes.specs.declared.unicode.Invalid.{Invalid}
 use Rattle.escapes.specs.declared.unicode.Lead.{Lead}
 use Rattle.escapes.specs.declared.unicode.Lead.TheVariants.{LineBreak, Return, Single, Hex, Unicode, Nul, Octal, ZeroDecimal, Decimal, Other}
 
@@ -41,9 +41,9 @@ Sound (SurrogatePair c) = c < 1114112
 Sound (LoneSurrogate u) = u < 65536
 
 -- the place reached
-abbrev pub reached : Escape → ℕ
-reached (Gives us q) = q
-reached (Invalid q) = q
+abbrev pub reached : Result Given Invalid → ℕ
+reached (Ok g) = g.next
+reached (Err e) = e.next
 
 -- what a character behind a backslash begins, with a decimal digit behind it or not, in a template or not
 abbrev pub Leads : ℕ → Bool → Bool → Lead → Type 0
@@ -92,9 +92,9 @@ abbrev pub Wrong : Bool → Text → ℕ → ℕ → Type 0
 Wrong true t p q = (n : NotEscapeSequence) × (cs : List ℕ) × Matches t p (not_escape_sequence n) cs q
 Wrong false t p q = (b : BadEscape) × (cs : List ℕ) × Matches t p (bad_escape b) cs q
 
-abbrev pub Behind : Bool → List ℕ → ℕ → Escape → Type 0
-Behind m bs p (Gives us q) = (Alone m (utf8 bs) p (listed us) q ⊎ Joined (utf8 bs) p (listed us) q) × At bs q × (p < q)
-Behind m bs p (Invalid q) = Wrong m (utf8 bs) p q × At bs q × (p < q)
+abbrev pub Behind : Bool → List ℕ → ℕ → Result Given Invalid → Type 0
+Behind m bs p (Ok g) = (Alone m (utf8 bs) p (listed g.units) g.next ⊎ Joined (utf8 bs) p (listed g.units) g.next) × At bs g.next × (p < g.next)
+Behind m bs p (Err e) = Wrong m (utf8 bs) p e.next × At bs e.next × (p < e.next)
 
 -- a low half behind a high one, its backslash at p
 pub record Low (bs : List ℕ) (p l q : ℕ) : Type 0 where
@@ -121,18 +121,18 @@ is_template single = false
 is_template template = true
 
 -- an invalid escape gives a string no unit and a fault, and takes a template's value away
-abbrev pub units_told : Bool → Escape → Option (List ℕ)
-units_told m (Gives us q) = Some (listed us)
-units_told true (Invalid q) = None
-units_told false (Invalid q) = Some []
+abbrev pub units_told : Bool → Result Given Invalid → Option (List ℕ)
+units_told m (Ok g) = Some (listed g.units)
+units_told true (Err e) = None
+units_told false (Err e) = Some []
 
-abbrev pub faults_told : Bool → ℕ → Escape → List Fault
-faults_told m b (Gives us q) = []
-faults_told true b (Invalid q) = []
-faults_told false b (Invalid q) = fault invalid_escape b q ∷ []
+abbrev pub faults_told : Bool → ℕ → Result Given Invalid → List Fault
+faults_told m b (Ok g) = []
+faults_told true b (Err e) = []
+faults_told false b (Err e) = fault invalid_escape b e.next ∷ []
 
 -- what is read at p, behind a backslash: nothing at the text's end; else the backslash and the escape are steps of every body of that sort
-abbrev pub EscapeRead : Bool → List ℕ → ℕ → Option Escape → Type 0
+abbrev pub EscapeRead : Bool → List ℕ → ℕ → Option (Result Given Invalid) → Type 0
 EscapeRead m bs p None = utf8 bs p ≡ over
 EscapeRead m bs p (Some e) =
     ((body : Body) (b : ℕ) → is_template body ≡ m → utf8 bs b ≡ char 92 p → Part body (utf8 bs) b (units_told m e) (faults_told m b e) true (reached e))

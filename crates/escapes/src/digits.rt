@@ -1,11 +1,13 @@
 // Digits: one reader of hex digits, and what stands on it.
-ghost use Rattle.std.specs.Prelude.{◌≡◌, ◌<◌, ◌≤◌, T, MatchOption};
-ghost use Rattle.grammar.specs.Rule.{member, hex_digit, hex_digits, digit};
+ghost use Rattle.std.specs.Prelude.{◌≡◌, ◌-◌, ◌<◌, ◌≤◌, T, length, MatchOption};
+ghost use Rattle.std.specs.Iterator.{at_most};
+ghost use Rattle.grammar.specs.Rule.{member, hex_digit, digit};
 ghost use Rattle.grammar.specs.Production.{octal_digits};
-ghost use Rattle.escapes.specs.Places.{At};
-ghost use Rattle.escapes.specs.Digits.{DigitAt, DecimalAt, HexRead, CodePointRead, Skipped};
+ghost use Rattle.escapes.specs.Digits.{DigitAt, DecimalAt, TakesHex, HexRead, CodePointRead, Skipped};
 
-use crate::places::ascii_at;
+use crate::places::{ahead, ascii_at};
+use crate::unicode::Invalid;
+use source::cursor::Cursor;
 
 // The value of a hex digit.
 pub(crate) fn hex_value(b: u8) -> Option<u8>
@@ -20,103 +22,99 @@ pub(crate) fn hex_value(b: u8) -> Option<u8>
     }
 }
 
-// The value of the hex digit at a place.
-pub(crate) fn hex_at(bytes: &[u8], at: usize) -> Option<u8>
-    requires { At bytes.now at }
-    ensures digit_at { DigitAt hex_digits bytes.now at result }
-    ensures small { MatchOption result (at ≡ at) (λ v. v < 16) }
-{
-    match ascii_at(bytes, at) {
-        None => None,
-        Some(b) => hex_value(b),
+// The hex digits from a cursor on, by their values.
+#[derive(Clone, Copy)]
+pub(crate) struct HexDigits<'t> {
+    cursor: Cursor<'t>,
+}
+
+impl HexDigits<'_> {
+    // The place behind those that were taken.
+    fn place(&self) -> usize
+        ensures { result ≡ self.now.cursor.place.at }
+    {
+        self.cursor.place()
     }
 }
 
-// The value of the octal digit at a place.
-pub(crate) fn octal_at(bytes: &[u8], at: usize) -> Option<u8>
-    requires { At bytes.now at }
-    ensures digit_at { DigitAt octal_digits bytes.now at result }
-    ensures small { MatchOption result (at ≡ at) (λ v. v < 8) }
-{
-    match ascii_at(bytes, at) {
-        None => None,
-        Some(b) => {
-            if b'0' <= b && b <= b'7' {
-                Some(b - b'0')
-            } else {
-                None
-            }
-        }
+impl Iterator for HexDigits<'_> {
+    type Item = u8;
+
+    ghost next_gives = { TakesHex };
+
+    ghost remaining = { λ r. at_most (length r.cursor.bytes.now - r.cursor.place.at) };
+
+    fn next(&mut self) -> Option<u8> {
+        let digit = hex_value(ascii_at(self.cursor)?)?;
+        self.cursor = ahead(self.cursor, 1);
+        Some(digit)
     }
 }
 
-// Whether a decimal digit stands at a place.
-pub(crate) fn decimal_at(bytes: &[u8], at: usize) -> bool
-    requires { At bytes.now at }
-    ensures { DecimalAt bytes.now at result }
+// The value of the octal digit at a cursor.
+pub(crate) fn octal_at(cursor: Cursor<'_>) -> Option<u8>
+    ensures digit_at { DigitAt octal_digits cursor.entry.bytes.now cursor.entry.place.at result }
+    ensures small { MatchOption result (result ≡ result) (λ v. v < 8) }
 {
-    match ascii_at(bytes, at) {
-        None => false,
-        Some(b) => b'0' <= b && b <= b'9',
+    match ascii_at(cursor)? {
+        b @ b'0'..=b'7' => Some(b - b'0'),
+        _ => None,
     }
 }
 
-// A fixed number of hex digits: their value and the place behind them, or the place reached where there are fewer.
-pub(crate) enum Hex {
-    All(u16, usize),
-    Short(usize),
+// Whether a decimal digit stands at a cursor.
+pub(crate) fn decimal_at(cursor: Cursor<'_>) -> bool
+    ensures { DecimalAt cursor.entry.bytes.now cursor.entry.place.at result }
+{
+    matches!(ascii_at(cursor), Some(b'0'..=b'9'))
 }
 
-// `count` hex digits from a place on.
-pub(crate) fn hex_digits(bytes: &[u8], at: usize, count: usize) -> Hex
-    requires { (At bytes.now at) × (count ≤ 4) }
-    ensures { HexRead bytes.now at count result }
+// `count` hex digits from a cursor on: their value and the place behind them, or the place reached where there are fewer.
+pub(crate) fn hex_digits(cursor: Cursor<'_>, count: usize) -> Result<(u16, usize), Invalid>
+    requires { count ≤ 4 }
+    ensures { HexRead cursor.entry.bytes.now cursor.entry.place.at count result }
 {
+    let mut digits = HexDigits { cursor };
     let mut value: u16 = 0;
-    for i in 0..count {
-        let Some(digit) = hex_at(bytes, at + i) else {
-            return Hex::Short(at + i);
+    for _i in 0..count {
+        let Some(digit) = digits.next() else {
+            return Err(Invalid {
+                next: digits.place(),
+            });
         };
-        value = value * 16 + digit as u16;
+        value = value * 16 + u16::from(digit);
     }
-    Hex::All(value, at + count)
+    Ok((value, digits.place()))
 }
 
-// The digits of a code point in braces: its value and the place behind; none; or the place behind the digit that lifts the value above 10FFFF.
-pub(crate) enum CodePoint {
-    Value(u32, usize),
+// Why hex digits make no code point: there are none, or one lifts the value above 10FFFF, with the place behind it.
+#[derive(Clone, Copy, PartialEq, Eq, Debug)]
+pub(crate) enum NoCodePoint {
     Missing,
     Over(usize),
 }
 
-// Hex digits from a place on, as long as they make a code point.
-pub(crate) fn code_point(bytes: &[u8], at: usize) -> CodePoint
-    requires { At bytes.now at }
-    ensures { CodePointRead bytes.now at result }
+// Hex digits from a cursor on, as long as they make a code point: its value and the place behind.
+pub(crate) fn code_point(cursor: Cursor<'_>) -> Result<(u32, usize), NoCodePoint>
+    ensures { CodePointRead cursor.entry.bytes.now cursor.entry.place.at result }
 {
-    let mut value = match hex_at(bytes, at) {
-        None => return CodePoint::Missing,
-        Some(digit) => digit as u32,
+    let mut digits = HexDigits { cursor };
+    let Some(first) = digits.next() else {
+        return Err(NoCodePoint::Missing);
     };
-    let mut to = at + 1;
-    while let Some(digit) = hex_at(bytes, to) {
-        value = value * 16 + digit as u32;
-        to += 1;
+    let mut value = u32::from(first);
+    while let Some(digit) = digits.next() {
+        value = value * 16 + u32::from(digit);
         if value > 0x10FFFF {
-            return CodePoint::Over(to);
+            return Err(NoCodePoint::Over(digits.place()));
         }
     }
-    CodePoint::Value(value, to)
+    Ok((value, digits.place()))
 }
 
-// The place behind the hex digits from a place on.
-pub(crate) fn skip_hex(bytes: &[u8], at: usize) -> usize
-    requires { At bytes.now at }
-    ensures { Skipped bytes.now at result }
+// The place behind the hex digits from a cursor on.
+pub(crate) fn skip_hex(cursor: Cursor<'_>) -> usize
+    ensures { Skipped cursor.entry.bytes.now cursor.entry.place.at result }
 {
-    let mut to = at;
-    while let Some(_) = hex_at(bytes, to) {
-        to += 1;
-    }
-    to
+    cursor.place() + HexDigits { cursor }.count()
 }

@@ -1,5 +1,5 @@
 // Escapes. Each reader starts at the character behind the backslash.
-ghost use Rattle.std.specs.Prelude.{◌≡◌, ◌+◌, ◌<◌, ◌≤◌, Bool, true, false, [], ◌∷◌, MatchOption};
+ghost use Rattle.std.specs.Prelude.{◌≡◌, ◌+◌, ◌<◌, ◌≤◌, Bool, true, false, [], ◌∷◌, Ok, MatchOption};
 ghost use Rattle.grammar.specs.Utf8.{utf8};
 ghost use Rattle.grammar.specs.Rule.{Ahead, but};
 ghost use Rattle.grammar.specs.Production.{octal_digits};
@@ -8,25 +8,31 @@ ghost use Rattle.escapes.specs.Places.{At, Here, Stands};
 ghost use Rattle.escapes.specs.Digits.{Digit, DecimalAt};
 ghost use Rattle.escapes.specs.Escapes.{listed, unicode_units, Sound, Leads, Behind, Low, EscapeRead};
 
-use crate::digits::{CodePoint, Hex, code_point, decimal_at, hex_digits, octal_at, skip_hex};
-use crate::places::stands_at;
+use crate::digits::{NoCodePoint, code_point, decimal_at, hex_digits, octal_at, skip_hex};
+use crate::places::{ahead, moved, stands_at};
 use source::cursor::Cursor;
 use source::fronts::behind;
 use source::trial::{Place, Trial};
 
-// The units of an escape.
-#[derive(Clone, Copy)]
+// The units of an escape. They are none, one or two: an Option has no place for two.
+#[derive(Clone, Copy, PartialEq, Eq, Debug)]
 pub enum Units {
     Nothing,
     One(u16),
     Two(u16, u16),
 }
 
-// An escape with its units, or an invalid one; and the place reached.
-#[derive(Clone, Copy)]
-pub enum Escape {
-    Gives(Units, usize),
-    Invalid(usize),
+// What a good escape gives, and the place behind it.
+#[derive(Clone, Copy, PartialEq, Eq, Debug)]
+pub struct Given {
+    pub units: Units,
+    pub next: usize,
+}
+
+// A bad escape, and the place that its reading reached.
+#[derive(Clone, Copy, PartialEq, Eq, Debug)]
+pub struct Invalid {
+    pub next: usize,
 }
 
 // A Unicode escape: a code point that is no surrogate, one that two halves make, or a surrogate alone. Each is its number.
@@ -105,7 +111,9 @@ fn pair_of(high: u16, low: u16) -> UnicodeEscape
     requires { (55296 ≤ high) × ((high ≤ 56319) × ((56320 ≤ low) × (low ≤ 57343))) }
     ensures { (unicode_units result ≡ high ∷ low ∷ []) × Sound result }
 {
-    UnicodeEscape::SurrogatePair((high - 0xD800) as u32 * 0x400 + (low - 0xDC00) as u32 + 0x10000)
+    UnicodeEscape::SurrogatePair(
+        u32::from(high - 0xD800) * 0x400 + u32::from(low - 0xDC00) + 0x10000,
+    )
 }
 
 // One number alone, a surrogate or not.
@@ -113,10 +121,9 @@ fn one_of(value: u32) -> UnicodeEscape
     requires { value < 1114112 }
     ensures { (unicode_units result ≡ utf16 value) × Sound result }
 {
-    if 0xD800 <= value && value <= 0xDFFF {
-        UnicodeEscape::LoneSurrogate(value)
-    } else {
-        UnicodeEscape::CodePoint(value)
+    match value {
+        0xD800..=0xDFFF => UnicodeEscape::LoneSurrogate(value),
+        _ => UnicodeEscape::CodePoint(value),
     }
 }
 
@@ -132,148 +139,176 @@ fn unicode_units(escape: UnicodeEscape) -> Units
 }
 
 // A CR, alone or with the LF behind it.
-fn return_escape(bytes: &[u8], at: usize) -> Escape
-    requires { Here bytes.now at 13 }
-    ensures { (m : Bool) → Behind m bytes.now at result }
+fn return_escape(cursor: Cursor<'_>) -> Given
+    requires { Here cursor.bytes.now cursor.place.at 13 }
+    ensures { (m : Bool) → Behind m cursor.entry.bytes.now cursor.entry.place.at (Ok result) }
 {
-    match behind::<b'\r', b'\n'>(bytes, at) {
-        Some(behind) => Escape::Gives(Units::Nothing, behind),
-        None => Escape::Gives(Units::Nothing, at + 1),
+    let at = cursor.place();
+    Given {
+        units: Units::Nothing,
+        next: behind::<b'\r', b'\n'>(cursor.bytes(), at).unwrap_or(at + 1),
     }
 }
 
 // `x` and two hex digits.
-fn hex_escape(bytes: &[u8], at: usize) -> Escape
-    requires { Here bytes.now at 120 }
-    ensures { (m : Bool) → Behind m bytes.now at result }
+fn hex_escape(cursor: Cursor<'_>) -> Result<Given, Invalid>
+    requires { Here cursor.bytes.now cursor.place.at 120 }
+    ensures { (m : Bool) → Behind m cursor.entry.bytes.now cursor.entry.place.at result }
 {
-    match hex_digits(bytes, at + 1, 2) {
-        Hex::All(unit, to) => Escape::Gives(Units::One(unit), to),
-        Hex::Short(to) => Escape::Invalid(to),
-    }
+    let (unit, next) = hex_digits(ahead(cursor, 1), 2)?;
+    Ok(Given {
+        units: Units::One(unit),
+        next,
+    })
 }
 
 // `u{`, hex digits of a code point, and `}`.
-fn braces_escape(bytes: &[u8], at: usize, in_template: bool) -> Escape
-    requires { (Here bytes.now at 117) × (Here bytes.now (at + 1) 123) }
-    ensures { Behind in_template bytes.now at result }
+fn braces_escape(cursor: Cursor<'_>, in_template: bool) -> Result<Given, Invalid>
+    requires { (Here cursor.bytes.now cursor.place.at 117) × (Here cursor.bytes.now (cursor.place.at + 1) 123) }
+    ensures { Behind in_template cursor.entry.bytes.now cursor.entry.place.at result }
 {
-    match code_point(bytes, at + 2) {
-        CodePoint::Missing => Escape::Invalid(at + 2),
-        CodePoint::Over(to) => {
-            if in_template {
-                Escape::Invalid(skip_hex(bytes, to))
-            } else {
-                Escape::Invalid(to)
+    match code_point(ahead(cursor, 2)) {
+        Err(NoCodePoint::Missing) => Err(Invalid {
+            next: cursor.place() + 2,
+        }),
+        Err(NoCodePoint::Over(to)) if in_template => Err(Invalid {
+            next: skip_hex(moved(cursor, to)),
+        }),
+        Err(NoCodePoint::Over(next)) => Err(Invalid { next }),
+        Ok((value, to)) => {
+            let behind = moved(cursor, to);
+            if !stands_at(behind, b'}') {
+                return Err(Invalid { next: to });
             }
-        }
-        CodePoint::Value(value, to) => {
-            if stands_at(bytes, to, b'}') {
-                Escape::Gives(unicode_units(one_of(value)), to + 1)
-            } else {
-                Escape::Invalid(to)
-            }
+            Ok(Given {
+                units: unicode_units(one_of(value)),
+                next: to + 1,
+            })
         }
     }
 }
 
 // Takes `\u` and four hex digits of a low half, or nothing.
-fn low_half(bytes: &[u8], place: &mut Place) -> Option<u16>
-    requires { At bytes.now place.old.at }
-    ensures { MatchOption result (place.new.at ≡ place.old.at) (λ l. Low bytes.now place.old.at l place.new.at) }
+fn low_half(cursor: Cursor<'_>, place: &mut Place) -> Option<u16>
+    requires { At cursor.bytes.now place.old.at }
+    ensures { MatchOption result (place.new.at ≡ place.old.at) (λ l. Low cursor.entry.bytes.now place.old.at l place.new.at) }
 {
-    let mut trial = Trial::begin(bytes, place);
+    let mut trial = Trial::begin(cursor.bytes(), place);
     if !trial.take_unicode_prefix() {
         return None;
     }
-    match hex_digits(bytes, trial.at(), 4) {
-        Hex::Short(_) => None,
-        Hex::All(low, to) => {
-            if low < 0xDC00 || 0xDFFF < low {
-                return None;
-            }
-            trial.move_to(to);
-            trial.confirm();
-            Some(low)
-        }
+    let Ok((low, to)) = hex_digits(moved(cursor, trial.at()), 4) else {
+        return None;
+    };
+    if !(0xDC00..=0xDFFF).contains(&low) {
+        return None;
     }
+    trial.move_to(to);
+    trial.confirm();
+    Some(low)
 }
 
 // `u` and four hex digits; behind a high half a low half is taken too.
-fn unit_escape(bytes: &[u8], at: usize) -> Escape
-    requires { (Here bytes.now at 117) × (Ahead (utf8 bytes.now (at + 1)) (but ((123, 123) ∷ [])) true) }
-    ensures { (m : Bool) → Behind m bytes.now at result }
+fn unit_escape(cursor: Cursor<'_>) -> Result<Given, Invalid>
+    requires { (Here cursor.bytes.now cursor.place.at 117) × (Ahead (utf8 cursor.bytes.now (cursor.place.at + 1)) (but ((123, 123) ∷ [])) true) }
+    ensures { (m : Bool) → Behind m cursor.entry.bytes.now cursor.entry.place.at result }
 {
-    match hex_digits(bytes, at + 1, 4) {
-        Hex::Short(to) => Escape::Invalid(to),
-        Hex::All(high, to) => {
-            if high < 0xD800 || 0xDBFF < high {
-                return Escape::Gives(unicode_units(one_of(high as u32)), to);
-            }
-            let mut place = Place { at: to };
-            match low_half(bytes, &mut place) {
-                None => Escape::Gives(unicode_units(one_of(high as u32)), place.at),
-                Some(low) => Escape::Gives(unicode_units(pair_of(high, low)), place.at),
-            }
-        }
+    let (high, to) = hex_digits(ahead(cursor, 1), 4)?;
+    let alone = Given {
+        units: unicode_units(one_of(u32::from(high))),
+        next: to,
+    };
+    if !matches!(high, 0xD800..=0xDBFF) {
+        return Ok(alone);
+    }
+    let mut place = Place { at: to };
+    match low_half(cursor, &mut place) {
+        None => Ok(alone),
+        Some(low) => Ok(Given {
+            units: unicode_units(pair_of(high, low)),
+            next: place.at,
+        }),
     }
 }
 
 // What begins with `u`.
-fn unicode_escape(bytes: &[u8], at: usize, in_template: bool) -> Escape
-    requires { Here bytes.now at 117 }
-    ensures { Behind in_template bytes.now at result }
+fn unicode_escape(cursor: Cursor<'_>, in_template: bool) -> Result<Given, Invalid>
+    requires { Here cursor.bytes.now cursor.place.at 117 }
+    ensures { Behind in_template cursor.entry.bytes.now cursor.entry.place.at result }
 {
-    if stands_at(bytes, at + 1, b'{') {
-        braces_escape(bytes, at, in_template)
+    if stands_at(ahead(cursor, 1), b'{') {
+        braces_escape(cursor, in_template)
     } else {
-        unit_escape(bytes, at)
+        unit_escape(cursor)
     }
 }
 
 // An octal digit, with a second one behind it, and a third if the first is 0 to 3. A zero has a decimal digit behind it.
-fn octal_escape(bytes: &[u8], at: usize, first: u8) -> Escape
-    requires { (Digit octal_digits bytes.now at first) × ((first < 8) × ((first ≡ 0 → DecimalAt bytes.now (at + 1) true))) }
-    ensures { Behind false bytes.now at result }
+fn octal_escape(cursor: Cursor<'_>, first: u8) -> Given
+    requires { (Digit octal_digits cursor.bytes.now cursor.place.at first) × ((first < 8) × ((first ≡ 0 → DecimalAt cursor.bytes.now (cursor.place.at + 1) true))) }
+    ensures { Behind false cursor.entry.bytes.now cursor.entry.place.at (Ok result) }
 {
-    let Some(second) = octal_at(bytes, at + 1) else {
-        return Escape::Gives(Units::One(first as u16), at + 1);
+    let at = cursor.place();
+    let Some(second) = octal_at(ahead(cursor, 1)) else {
+        return Given {
+            units: Units::One(u16::from(first)),
+            next: at + 1,
+        };
     };
-    let two = first as u16 * 8 + second as u16;
+    let two = u16::from(first * 8 + second);
     if first > 3 {
-        return Escape::Gives(Units::One(two), at + 2);
+        return Given {
+            units: Units::One(two),
+            next: at + 2,
+        };
     }
-    match octal_at(bytes, at + 2) {
-        None => Escape::Gives(Units::One(two), at + 2),
-        Some(third) => Escape::Gives(Units::One(two * 8 + third as u16), at + 3),
+    match octal_at(ahead(cursor, 2)) {
+        None => Given {
+            units: Units::One(two),
+            next: at + 2,
+        },
+        Some(third) => Given {
+            units: Units::One(two * 8 + u16::from(third)),
+            next: at + 3,
+        },
     }
 }
 
 // The escape that a character begins, behind which `next` stands.
-fn escape_of(bytes: &[u8], at: usize, c: char, next: usize, in_template: bool) -> Escape
-    requires { Stands bytes.now at c next }
-    ensures { Behind in_template bytes.now at result }
+fn escape_of(cursor: Cursor<'_>, c: char, next: usize, in_template: bool) -> Result<Given, Invalid>
+    requires { Stands cursor.bytes.now cursor.place.at c next }
+    ensures { Behind in_template cursor.entry.bytes.now cursor.entry.place.at result }
 {
-    match lead_of(c, decimal_at(bytes, next), in_template) {
-        Lead::LineBreak => Escape::Gives(Units::Nothing, next),
-        Lead::Return => return_escape(bytes, at),
-        Lead::Single(unit) => Escape::Gives(Units::One(unit), next),
-        Lead::Hex => hex_escape(bytes, at),
-        Lead::Unicode => unicode_escape(bytes, at, in_template),
-        Lead::Nul => Escape::Gives(Units::One(0), next),
-        Lead::Octal(digit) => octal_escape(bytes, at, digit),
-        Lead::ZeroDecimal => Escape::Invalid(next + 1),
-        Lead::Decimal => Escape::Invalid(next),
-        Lead::Other => Escape::Gives(units_of(c), next),
+    match lead_of(c, decimal_at(moved(cursor, next)), in_template) {
+        Lead::LineBreak => Ok(Given {
+            units: Units::Nothing,
+            next,
+        }),
+        Lead::Return => Ok(return_escape(cursor)),
+        Lead::Single(unit) => Ok(Given {
+            units: Units::One(unit),
+            next,
+        }),
+        Lead::Hex => hex_escape(cursor),
+        Lead::Unicode => unicode_escape(cursor, in_template),
+        Lead::Nul => Ok(Given {
+            units: Units::One(0),
+            next,
+        }),
+        Lead::Octal(digit) => Ok(octal_escape(cursor, digit)),
+        Lead::ZeroDecimal => Err(Invalid { next: next + 1 }),
+        Lead::Decimal => Err(Invalid { next }),
+        Lead::Other => Ok(Given {
+            units: units_of(c),
+            next,
+        }),
     }
 }
 
 // The escape behind a backslash, or none at the text's end.
-pub fn read_escape(cursor: Cursor<'_>, in_template: bool) -> Option<Escape>
+pub fn read_escape(cursor: Cursor<'_>, in_template: bool) -> Option<Result<Given, Invalid>>
     ensures { EscapeRead in_template cursor.entry.bytes.now cursor.entry.place.at result }
 {
-    match cursor.peek_char() {
-        None => None,
-        Some((c, next)) => Some(escape_of(cursor.bytes(), cursor.place(), c, next, in_template)),
-    }
+    let (c, next) = cursor.peek_char()?;
+    Some(escape_of(cursor, c, next, in_template))
 }

@@ -1,7 +1,7 @@
-pub mod Counting
-pub mod Faulting
-pub mod Giving
+pub mod GivesUnits
 pub mod Going
+pub mod Opens
 pub mod Looking
 pub mod Running
 pub mod Spelt
+pub mod TellsFaults

@@ -1,53 +1,23 @@
 -- From a literal run through to the look at it. Assumes nothing.
-use Rattle.std.proofs.Common.{◌≡◌, ℕ, zero, suc, ◌+◌, ◌<◌, Bool, true, false, cond, ◌&&◌, List, [], ◌∷◌, length, get_or, is_some, Some, None, Option, sym, refl, ap, ◌∙◌, subst, ap₂, arith, length-append}
-use Rattle.std.proofs.lemmas.Str.{IsCharBoundary-before_ascii}
+use Rattle.std.proofs.Common.{◌≡◌, ℕ, zero, suc, ◌+◌, Bool, true, false, cond, ◌&&◌, List, [], ◌∷◌, length, is_some, Some, None, Option, sym, refl, ap, ◌∙◌, subst, arith, length-append}
+use Rattle.std.specs.Prelude.{IfSome, unwrap_or}
 use Rattle.grammar.specs.Utf8.{utf8}
-use Rattle.grammar.specs.Rule.{Matches}
 use Rattle.grammar.specs.Literal as literal
 use Rattle.grammar.specs.Reading as grammar
 use Rattle.grammar.specs.Outcome as outcome
 use Rattle.grammar.proofs.Exact.{accepts_exactly}
-use Rattle.grammar.proofs.Leaves.{takes}
 use Rattle.grammar.proofs.Readings.{readings_are_one}
 use Rattle.tokens.specs.Grammar.{named, recorded}
 use Rattle.tokens.specs.declared.Kind as kind
 use Rattle.tokens.specs.declared.Kind.{Kind}
-use Rattle.source.specs.Texts.{WellFormed}
-use Rattle.source.proofs.Known.{utf8_from}
-use Rattle.escapes.specs.Places.{Here}
-use Rattle.escapes.proofs.Looks.{here}
-use Rattle.escapes.proofs.Nodes.{stop}
 use Rattle.pieces.specs.Pieces.{scan_of, ending_of}
 use Rattle.pieces.specs.declared.piece.Opening.{Opening}
-use Rattle.pieces.specs.declared.piece.Opening.TheVariants.{Double, Single, Template, Resumption}
-use Rattle.look.specs.Looked.{opener, terminated, stored, LookedAt, Accepts}
+use Rattle.look.specs.Looked.{terminated, stored, LookedAt, Accepts}
 use Rattle.look.specs.Runs.{Ran}
 use Rattle.look.specs.Told.{due}
-use Rattle.look.specs.Units.{Opened, CountedUnits}
+use Rattle.look.specs.Units.{CountedUnits}
 use Rattle.look.specs.declared.answer.Look.{Look}
 use Rattle.look.specs.declared.run.Run.{Run}
-
--- THE OPENING
-
-low : (o : Opening) → opener o < 128
-low Double = omega arith
-low Single = omega arith
-low Template = omega arith
-low Resumption = omega arith
-
-opens_by : (bs : List ℕ) (start : ℕ) (o : Opening) → Here bs start (opener o) → Matches (utf8 bs) start (grammar.opening_of (scan_of o)) (opener o ∷ []) (start + 1)
-opens_by bs start Double h = (_, _, _, h.step, refl, tt, stop (utf8 bs) (start + 1))
-opens_by bs start Single h = (_, _, _, h.step, refl, tt, stop (utf8 bs) (start + 1))
-opens_by bs start Template h = (_, _, _, h.step, refl, tt, stop (utf8 bs) (start + 1))
-opens_by bs start Resumption h = (_, _, _, h.step, refl, tt, stop (utf8 bs) (start + 1))
-
-pub opened : (bs : List ℕ) (start : ℕ) (o : Opening) → WellFormed bs → start < length bs → get_or bs start 0 ≡ opener o → Opened bs start o
-opened bs start o w l e =
-    let k = low o in
-    let b = IsCharBoundary-before_ascii bs start l (omega arith) in
-    let h = subst (Here bs start) e (here bs start (record { text = utf8_from bs w; boundary = b }) l (omega arith)) in
-    let (ls, _, y) = takes (grammar.opening_of (scan_of o)) (utf8 bs) start (opener o ∷ []) (start + 1) (opens_by bs start o h) in
-    record { leaves = ls; takes = y; behind = h.behind }
 
 -- THE COUNTS
 
@@ -72,24 +42,31 @@ and_cond true b = refl
 and_cond false b = refl
 
 -- the units of an entry
-entry_units : (m : Bool) (u : Option (List ℕ)) (n : ℕ) → ((m && is_some u) ≡ true → (us : List ℕ) → u ≡ Some us → n ≡ length us) → ((m && is_some u) ≡ false → n ≡ 0) → n ≡ stored (cond m (Some u) None)
-entry_units false u n h k = k refl
-entry_units true None n h k = k refl
-entry_units true (Some us) n h k = h refl us refl
+entry_units : (bs : List ℕ) (start : ℕ) (o : Opening) (read : grammar.Read) (m : Bool) (w : Option ℕ) → grammar.Reading (utf8 bs) read → read.from ≡ start → is_some w ≡ is_some (outcome.units_read read)
+    → IfSome w (λ k. (m ≡ true → CountedUnits bs start o k) × (m ≡ false → k ≡ 0)) → unwrap_or w 0 ≡ stored (cond m (Some (outcome.units_read read)) None)
+entry_units bs start o read m w x f e h = go m w (outcome.units_read read) refl e h
+  where
+    go : (m : Bool) (w : Option ℕ) (u : Option (List ℕ)) → outcome.units_read read ≡ u → is_some w ≡ is_some u → IfSome w (λ k. (m ≡ true → CountedUnits bs start o k) × (m ≡ false → k ≡ 0)) → unwrap_or w 0 ≡ stored (cond m (Some u) None)
+    go true None None i e h = refl
+    go false None u i e h = refl
+    go false (Some k) u i e h = h.1 refl
+    go true None (Some us) i e h = absurd (let z : ◌≡◌ {A = ℕ} 0 1 = cc in omega arith)
+    go true (Some k) None i e h = absurd (let z : ◌≡◌ {A = ℕ} 0 1 = cc in omega arith)
+    go true (Some k) (Some us) i e h = let y = h.0 refl in y.count us (ap outcome.units_read (readings_are_one (utf8 bs) y.read read (y.starts ∙ sym f) y.reading x) ∙ i)
 
 -- what a look that was made of a run says
-pub record Made (o : Opening) (start : ℕ) (r : Run) (n : ℕ) (l : Look) : Type 0 where
+pub record Made (bs : List ℕ) (start : ℕ) (o : Opening) (r : Run) (n : ℕ) (l : Look) : Type 0 where
   pub starts : l.token.start ≡ start
   pub ends : l.token.end ≡ r.end
   pub kinded : l.token.kind ≡ named (outcome.kind_at (scan_of o) (ending_of r.ending))
   pub marked : l.token.escaped ≡ (terminated l.token.kind && r.tally.marked)
   pub faulted : l.faults ≡ r.tally.faults + n
-  pub cooked : l.cooked ≡ r.tally.cooked
+  pub cooked : is_some l.units ≡ r.tally.cooked
+  pub stored : IfSome l.units (λ k. (l.token.escaped ≡ true → CountedUnits bs start o k) × (l.token.escaped ≡ false → k ≡ 0))
 
 pub looked_at :
-    (bs : List ℕ) (start : ℕ) (o : Opening) (r : Run) (n : ℕ) (l : Look) → Ran bs start o r → ((p q : ℕ) → recorded (outcome.end_faults (ending_of r.ending) p q) ≡ due p q n) → Made o start r n l
-    → ((l.token.escaped && r.tally.cooked) ≡ true → CountedUnits bs start o l.units) → ((l.token.escaped && r.tally.cooked) ≡ false → l.units ≡ 0) → LookedAt bs start o l
-looked_at bs start o r n l x d m h k =
+    (bs : List ℕ) (start : ℕ) (o : Opening) (r : Run) (n : ℕ) (l : Look) → Ran bs start o r → ((p q : ℕ) → recorded (outcome.end_faults (ending_of r.ending) p q) ≡ due p q n) → Made bs start o r n l → LookedAt bs start o l
+looked_at bs start o r n l x d m =
     let u = x.upto in
     let read : grammar.Read = record { scan = scan_of o; from = start; opens = x.opened.leaves; start = start + 1; steps = u.part.nodes; stop = x.stop; ending = ending_of r.ending; ends = x.ends.leaves; to = r.end } in
     let reading : grammar.Reading (utf8 bs) read = record { opened = x.opened.takes; stepped = u.part.chain; ended = x.ends.takes } in
@@ -100,7 +77,6 @@ looked_at bs start o r n l x d m h k =
     m.marked ∙ ap (λ z. terminated z && r.tally.marked) m.kinded ∙ ap (λ z. z && r.tally.marked) (terminated_named (outcome.kind_read read)) ∙ and_cond (is_some (outcome.kind_read read)) r.tally.marked
     ∙ ap (λ z. cond (is_some (outcome.kind_read read)) z false) (sym u.part.marked) in
     let cook : r.tally.cooked ≡ is_some (outcome.units_read read) = u.cooked ∙ ap is_some (sym u.part.units) in
-    let both : (l.token.escaped && r.tally.cooked) ≡ (outcome.mark_read read && is_some (outcome.units_read read)) = ap₂ ◌&&◌ mark cook in
     record {
       read = read;
       reading = reading;
@@ -112,9 +88,7 @@ looked_at bs start o r n l x d m h k =
       marked = mark;
       faulted = let a = length-append (outcome.faults_of u.part.nodes) (outcome.end_faults (ending_of r.ending) start r.end) in omega (arith, m.faulted, u.faulted);
       cooked = m.cooked ∙ cook;
-      counted =
-          entry_units (outcome.mark_read read) (outcome.units_read read) l.units
-          (λ i us j. let y = h (both ∙ i) in y.count us (ap outcome.units_read (readings_are_one (utf8 bs) y.read read y.starts y.reading reading) ∙ j)) (λ i. k (both ∙ i));
+      counted = entry_units bs start o read (outcome.mark_read read) l.units reading refl (m.cooked ∙ cook) (subst (λ z. IfSome l.units (λ k. (z ≡ true → CountedUnits bs start o k) × (z ≡ false → k ≡ 0))) mark m.stored);
     }
 
 -- ACCEPTANCE
@@ -155,7 +129,3 @@ accepts bs start o l x k e = (
   (λ h. let v = (accepts_exactly (utf8 bs) x.read k e h.0 x.reading).1 (subst (λ z. literal.Derivable (utf8 bs) z k e h.0) (sym x.from) h.1) in
       (x.faulted ∙ ap length v.faultless, x.kinded ∙ ap named v.of_kind, x.ends ∙ v.ends)),
 )
-
--- the run of a cursor's bytes and place, as calls told them
-pub ran_of : (bs bs' : List ℕ) (start at : ℕ) (o : Opening) (r : Run) → bs' ≡ bs → Opened bs start o → at ≡ start + 1 → ((s : ℕ) → Opened bs' s o → at ≡ s + 1 → Ran bs' s o r) → Ran bs start o r
-ran_of bs bs' start at o r e x p h = subst (λ z. Ran z start o r) e (h start (subst (λ z. Opened z start o) (sym e) x) p)

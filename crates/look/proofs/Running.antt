@@ -4,7 +4,6 @@ use Rattle.grammar.specs.Utf8.{utf8}
 use Rattle.grammar.specs.Value.{joined}
 use Rattle.grammar.specs.Outcome.{Fault, fault, invalid_escape}
 use Rattle.grammar.specs.Literal.{Body}
-use Rattle.std.specs.Str.{IsCharBoundary}
 use Rattle.escapes.specs.Places.{At}
 use Rattle.escapes.specs.Escapes.{Part}
 use Rattle.escapes.proofs.Parts.{part_join, no_step}
@@ -13,10 +12,11 @@ use Rattle.pieces.specs.Pieces.{body_of, ending_of, Ends}
 use Rattle.pieces.specs.declared.piece.Opening.{Opening}
 use Rattle.look.specs.Goes.{PassedRead, faults_at}
 use Rattle.look.specs.Runs.{Upto, Ran}
-use Rattle.look.specs.Units.{Opened}
 use Rattle.look.specs.declared.go.Passed.{Passed}
+use Rattle.look.specs.declared.literal.Literal.{Literal}
 use Rattle.look.specs.declared.run.Tally.{Tally}
 use Rattle.look.specs.declared.run.Run.{Run}
+use Rattle.look.proofs.Opens.{opened_in}
 
 some_joined : (u v : Option (List ℕ)) → is_some (joined u v) ≡ (is_some u && is_some v)
 some_joined None v = refl
@@ -55,7 +55,7 @@ one_or_none f false = refl
 abbrev Counted : Tally → Passed → Tally → Type 0
 Counted t w r = (r.faults ≡ t.faults + cond w.faulty 1 0) × (r.cooked ≡ (t.cooked && w.cooked)) × (r.marked ≡ (t.marked || w.marked))
 
-pub upto_on : (bs : List ℕ) (start : ℕ) (o : Opening) (p q : ℕ) (t r : Tally) (w : Passed) → Upto bs start o p t → Plain (body_of o) bs p q → PassedRead (body_of o) bs q w → Counted t w r → Upto bs start o w.next r
+upto_on : (bs : List ℕ) (start : ℕ) (o : Opening) (p q : ℕ) (t r : Tally) (w : Passed) → Upto bs start o p t → Plain (body_of o) bs p q → PassedRead (body_of o) bs q w → Counted t w r → Upto bs start o w.next r
 upto_on bs start o p q t r w x y h (a, b, c) =
     let x₁ = upto_plain bs start o p q t x y in
     let z = part_join (body_of o) (utf8 bs) (start + 1) q w.next x₁.units h.units x₁.faults (faults_at q w) t.marked w.marked x₁.part h.on.part in
@@ -67,34 +67,29 @@ upto_on bs start o p q t r w x y h (a, b, c) =
       cooked = b ∙ ap₂ ◌&&◌ x₁.cooked h.cooked ∙ sym (some_joined x₁.units h.units);
     }
 
-pub one_more : (w : Passed) → cond w.faulty 1 0 ≤ 1
+one_more : (w : Passed) → cond w.faulty 1 0 ≤ 1
 one_more w = go w.faulty
   where
     go : (b : Bool) → cond b 1 0 ≤ 1
     go true = omega arith
     go false = omega arith
 
--- THE LOOP, with its cursors' bytes and places as calls told them
+-- THE LOOP
 
 -- how far a piece goes
 pub piece_moves : (b : Body) (bs : List ℕ) (p q : ℕ) (w : Passed) → Plain b bs p q → PassedRead b bs q w → (p < w.next) × At bs w.next × (q < w.next) × (p ≤ q)
 piece_moves b bs p q w y h = (omega (arith, y.order, h.on.moves), h.on.behind, h.on.moves, y.order)
 
 pub reached_on :
-    (bs₀ bs bs' : List ℕ) (o : Opening) (p₀ p q p' : ℕ) (t r : Tally) (w : Passed) → bs ≡ bs₀ → bs' ≡ bs → (IsCharBoundary bs w.next → p' ≡ w.next) → Plain (body_of o) bs p q → PassedRead (body_of o) bs q w
-    → Counted t w r → t.faults ≤ p → ((start : ℕ) → Opened bs start o → p₀ ≡ start + 1 → Upto bs start o p t)
-    → (bs' ≡ bs₀) × (r.faults ≤ p') × ((start : ℕ) → Opened bs' start o → p₀ ≡ start + 1 → Upto bs' start o p' r)
-reached_on bs₀ bs bs' o p₀ p q p' t r w e f m y h k l x =
-    let (_, a, n, i) = piece_moves (body_of o) bs p q w y h in
-    let g = m a.boundary in (
-      f ∙ e,
-      omega (arith, k.0, one_more w),
-      λ start z j. subst (λ c. Upto c start o p' r) (sym f) (subst (λ c. Upto bs start o c r) (sym g) (upto_on bs start o p q t r w (x start (subst (λ c. Opened c start o) f z) j) y h k)),
-    )
+    (l : Literal) (p q p' : ℕ) (t r : Tally) (w : Passed) → p' ≡ w.next → Plain (body_of l.opening) l.inside.bytes.now p q → PassedRead (body_of l.opening) l.inside.bytes.now q w
+    → Counted t w r → t.faults ≤ p → Upto l.inside.bytes.now l.start l.opening p t → (r.faults ≤ p') × Upto l.inside.bytes.now l.start l.opening p' r
+reached_on l p q p' t r w e y h k n x =
+    let bs = l.inside.bytes.now in
+    let (a, _, _, _) = piece_moves (body_of l.opening) bs p q w y h in
+    (omega (arith, k.0, one_more w), subst (λ z. Upto bs l.start l.opening z r) (sym e) (upto_on bs l.start l.opening p q t r w x y h k))
 
 pub ran :
-    (bs₀ bs : List ℕ) (o : Opening) (p₀ p q : ℕ) (r : Run) → bs ≡ bs₀ → Plain (body_of o) bs p q → Ends (body_of o) bs q (ending_of r.ending) r.end → r.tally.faults ≤ p
-    → ((start : ℕ) → Opened bs start o → p₀ ≡ start + 1 → Upto bs start o p r.tally) → (start : ℕ) → Opened bs₀ start o → p₀ ≡ start + 1 → Ran bs₀ start o r
-ran bs₀ bs o p₀ p q r e y h l x start z j =
-    let u = upto_plain bs start o p q r.tally (x start (subst (λ c. Opened c start o) (sym e) z) j) y in
-    subst (λ c. Ran c start o r) e (record { opened = subst (λ c. Opened c start o) (sym e) z; stop = q; upto = u; ends = h; few = omega (arith, y.order, y.behind.boundary.0) })
+    (l : Literal) (p q : ℕ) (r : Run) → Plain (body_of l.opening) l.inside.bytes.now p q → Ends (body_of l.opening) l.inside.bytes.now q (ending_of r.ending) r.end → r.tally.faults ≤ p
+    → Upto l.inside.bytes.now l.start l.opening p r.tally → Ran l.inside.bytes.now l.start l.opening r
+ran l p q r y h n x =
+    record { opened = opened_in l; stop = q; upto = upto_plain l.inside.bytes.now l.start l.opening p q r.tally x y; ends = h; few = omega (arith, y.order, y.behind.boundary.0) }

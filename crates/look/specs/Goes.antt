@@ -1,11 +1,12 @@
 -- How a literal goes on at a stop, and how far it is read. Assumes nothing.
 use Rattle.std.specs.Prelude.{◌≡◌, ℕ, cond, List, [], ◌∷◌, is_some, Option}
+use Rattle.std.specs.declared.ops.ControlFlow.{ControlFlow}
+use Rattle.std.specs.declared.ops.ControlFlow.TheVariants.{Continue, Break}
 use Rattle.grammar.specs.Literal.{Body}
 use Rattle.grammar.specs.Outcome.{Fault, fault, invalid_escape}
 use Rattle.pieces.specs.Pieces.{ending_of, GoesOn, Ends}
+use Rattle.pieces.specs.declared.piece.Ending.{Ending}
 use Rattle.look.specs.declared.go.Passed.{Passed}
-use Rattle.look.specs.declared.go.Go.{Go}
-use Rattle.look.specs.declared.go.Go.TheVariants.{On, End}
 
 -- the faults of a stop at p
 abbrev pub faults_at : ℕ → Passed → List Fault
@@ -16,6 +17,6 @@ pub record PassedRead (b : Body) (bs : List ℕ) (p : ℕ) (w : Passed) : Type 0
   pub on : GoesOn b bs p units (faults_at p w) w.marked w.next
   pub cooked : w.cooked ≡ is_some units
 
-abbrev pub GoRead : Body → List ℕ → ℕ → Go → Type 0
-GoRead b bs p (On w) = PassedRead b bs p w
-GoRead b bs p (End e q) = Ends b bs p (ending_of e) q
+abbrev pub GoRead : Body → List ℕ → ℕ → ControlFlow (Ending × ℕ) Passed → Type 0
+GoRead b bs p (Continue w) = PassedRead b bs p w
+GoRead b bs p (Break e) = Ends b bs p (ending_of e.0) e.1

@@ -1,5 +1,5 @@
 -- What a look at a literal answers. Assumes nothing.
-use Rattle.std.specs.Prelude.{◌≡◌, ℕ, ◌<◌, ◌≤◌, Bool, true, false, ◌||◌, ◌⊎◌, ◌↔◌, List, length, is_some, Some, None, Ok, Err, Option, Result, ◌==◌, slice_index}
+use Rattle.std.specs.Prelude.{◌≡◌, ℕ, ◌<◌, ◌≤◌, Bool, true, false, ◌||◌, ◌⊎◌, ◌↔◌, List, length, is_some, unwrap_or, Some, None, Ok, Err, Option, Result, ◌==◌, slice_index}
 use Rattle.refusals.specs.Numbers.{number_of}
 use Rattle.refusals.specs.declared.Refusal.{Refusal}
 use Rattle.grammar.specs.Utf8.{utf8}
@@ -70,8 +70,8 @@ pub record LookedAt (bs : List ℕ) (start : ℕ) (o : Opening) (l : Look) : Typ
   pub kinded : l.token.kind ≡ named (kind_read read)
   pub marked : l.token.escaped ≡ mark_read read
   pub faulted : l.faults ≡ length (faults_read read)
-  pub cooked : l.cooked ≡ is_some (units_read read)
-  pub counted : l.units ≡ stored (entry_read read)
+  pub cooked : is_some l.units ≡ is_some (units_read read)
+  pub counted : unwrap_or l.units 0 ≡ stored (entry_read read)
 
 -- of a scan that suits
 abbrev pub Looked : List ℕ → ℕ → Scan → Look → Type 0
@@ -83,6 +83,10 @@ Accepts bs start l =
     (k : literal.Kind) (e : ℕ) → ((l.faults ≡ 0) × (l.token.kind ≡ named (Some k)) × (l.token.end ≡ e)) ↔ ((u : Option (List ℕ)) × literal.Derivable (utf8 bs) start k e u)
 
 -- refused with 3 exactly past the end, else with 4 exactly at a byte that does not open the scan
+abbrev pub Refused : List ℕ → ℕ → Scan → Refusal → Type 0
+Refused bs start s e = ((number_of e ≡ 3) × (length bs ≤ start)) ⊎ ((number_of e ≡ 4) × (start < length bs) × (opens s (slice_index bs start) ≡ false))
+
+-- refused, or else something opens there and the look at it is told
 abbrev pub Answered : List ℕ → ℕ → Scan → Result Look Refusal → Type 0
 Answered bs start s (Ok l) = (start < length bs) × (opens s (slice_index bs start) ≡ true) × Looked bs start s l × Accepts bs start l
-Answered bs start s (Err e) = ((number_of e ≡ 3) × (length bs ≤ start)) ⊎ ((number_of e ≡ 4) × (start < length bs) × (opens s (slice_index bs start) ≡ false))
+Answered bs start s (Err e) = Refused bs start s e

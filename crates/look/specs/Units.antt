@@ -1,5 +1,5 @@
--- The units of a literal, one after the other: where their reader stands, and what a step tells. Assumes nothing.
-use Rattle.std.specs.Prelude.{◌≡◌, ℕ, ◌+◌, ◌-◌, ◌*◌, ◌<◌, ◌≤◌, Bool, List, [], ◌∷◌, ◌++◌, length, Some, None, Option}
+-- The units of a literal, one after the other: where their reader stands, and what a call gives. Assumes nothing.
+use Rattle.std.specs.Prelude.{◌≡◌, ℕ, ◌+◌, ◌-◌, ◌*◌, Bool, List, [], ◌∷◌, ◌++◌, length, Some, None, Option, MatchOption}
 use Rattle.grammar.specs.Utf8.{utf8}
 use Rattle.grammar.specs.Rule.{Leaf, Takes}
 use Rattle.grammar.specs.Literal.{Body}
@@ -7,13 +7,11 @@ use Rattle.grammar.specs.Reading as grammar
 use Rattle.grammar.specs.Outcome.{Fault, units_read}
 use Rattle.escapes.specs.Places.{At}
 use Rattle.escapes.specs.Escapes.{Part, listed}
+use Rattle.escapes.specs.declared.unicode.Given.{Given}
 use Rattle.pieces.specs.Plain.{spelt, utf16s}
-use Rattle.pieces.specs.Pieces.{scan_of, body_of, GoesOn, Ends}
+use Rattle.pieces.specs.Pieces.{scan_of, body_of, GoesOn, Ends, PieceRead}
 use Rattle.pieces.specs.declared.piece.Opening.{Opening}
-use Rattle.look.specs.declared.units.Given.{Given}
-use Rattle.look.specs.declared.units.Given.TheVariants.{On, End}
-use Rattle.look.specs.declared.units.UnitStep as step
-use Rattle.look.specs.declared.units.UnitStep.{UnitStep}
+use Rattle.pieces.specs.declared.piece.Piece.{Piece}
 use Rattle.look.specs.declared.units.UnitReader.{UnitReader}
 
 -- a literal opens at a place
@@ -26,35 +24,23 @@ pub record Opened (bs : List ℕ) (start : ℕ) (o : Opening) : Type 0 where
 abbrev pub Holds : Option (List ℕ) → List ℕ → Type 0
 Holds u xs = (us : List ℕ) → u ≡ Some us → us ≡ xs
 
--- what a stop gives
-abbrev pub GivenRead : Body → List ℕ → ℕ → Given → Type 0
-GivenRead b bs p (On us q) = (u : Option (List ℕ)) × (fs : List Fault) × (mark : Bool) × GoesOn b bs p u fs mark q × Holds u (listed us)
-GivenRead b bs p End = (e : grammar.Ending) × (q : ℕ) × Ends b bs p e q
+-- what a stop gives, and where the literal goes on
+abbrev pub GivenRead : Body → List ℕ → ℕ → Option Given → Type 0
+GivenRead b bs p (Some g) = (u : Option (List ℕ)) × (fs : List Fault) × (mark : Bool) × GoesOn b bs p u fs mark g.next × Holds u (listed g.units)
+GivenRead b bs p None = (e : grammar.Ending) × (q : ℕ) × Ends b bs p e q
 
--- a unit that is still to come
-abbrev pub pending : Option ℕ → List ℕ
-pending None = []
-pending (Some u) = u ∷ []
-
--- the literal is read up to `to`, its units us are given, and those behind them are the pending one and the characters from `at` to `to`
-pub record Sofar (bs : List ℕ) (start : ℕ) (o : Opening) (at to : ℕ) (given : Given) (second : Option ℕ) (us : List ℕ) : Type 0 where
-  pub opened : Opened bs start o
+-- the literal is read up to the end of a piece, its units us are given, and those behind them are the pending ones and the characters from `at` to that end
+pub record Sofar (bs : List ℕ) (start : ℕ) (o : Opening) (at : ℕ) (piece : Piece) (pending us : List ℕ) : Type 0 where
   pub units : Option (List ℕ)
   pub faults : List Fault
   pub mark : Bool
-  pub part : Part (body_of o) (utf8 bs) (start + 1) units faults mark to
-  pub holds : Holds units (us ++ (pending second ++ utf16s (spelt bs at to)))
-  pub here : At bs at
-  pub there : At bs to
-  pub order : at ≤ to
-  pub stop : GivenRead (body_of o) bs to given
+  pub part : Part (body_of o) (utf8 bs) (start + 1) units faults mark piece.to
+  pub holds : Holds units (us ++ (pending ++ utf16s (spelt bs at piece.to)))
+  pub from : ℕ
+  pub read : PieceRead (body_of o) bs from piece.to piece.stop
 
-abbrev pub Gave : UnitReader → ℕ → List ℕ → Type 0
-Gave r start us = Sofar r.cursor.bytes.now start r.opening r.cursor.place.at r.to r.given r.second us
-
--- falls with each step
-abbrev pub togo : UnitReader → ℕ
-togo r = 2 * (length r.cursor.bytes.now - r.cursor.place.at) + length (pending r.second)
+abbrev pub Gave : UnitReader → List ℕ → Type 0
+Gave r us = Sofar r.literal.inside.bytes.now r.literal.start r.literal.opening r.cursor.place.at r.piece (listed r.pending) us
 
 -- the literal is read to its end, and its value, if it has one, is us
 pub record AllGiven (bs : List ℕ) (start : ℕ) (o : Opening) (us : List ℕ) : Type 0 where
@@ -64,22 +50,16 @@ pub record AllGiven (bs : List ℕ) (start : ℕ) (o : Opening) (us : List ℕ) 
   pub scans : read.scan ≡ scan_of o
   pub value : Holds (units_read read) us
 
--- the units of a step
-abbrev pub step_units : UnitStep → List ℕ
-step_units (step.TheVariants.Unit u) = u ∷ []
-step_units step.TheVariants.Nothing = []
-step_units step.TheVariants.End = []
+abbrev pub GaveAll : UnitReader → List ℕ → Type 0
+GaveAll r us = AllGiven r.literal.inside.bytes.now r.literal.start r.literal.opening us
 
-abbrev pub goes_on : UnitStep → Type 0
-goes_on (step.TheVariants.Unit u) = Unit {0}
-goes_on step.TheVariants.Nothing = Unit {0}
-goes_on step.TheVariants.End = ⊥
+-- a call gives one unit more, and none only where all are given
+abbrev pub Gives : UnitReader → Option ℕ → UnitReader → Type 0
+Gives r u s = (s.literal ≡ r.literal) × ((us : List ℕ) → Gave r us → MatchOption u (GaveAll r us) (λ x. Gave s (us ++ x ∷ [])))
 
--- a step that goes on gives its units and comes nearer to the end
-abbrev pub Stepped : UnitReader → UnitReader → ℕ → List ℕ → UnitStep → Type 0
-Stepped r s start us (step.TheVariants.Unit u) = Gave s start (us ++ u ∷ []) × (togo s < togo r)
-Stepped r s start us step.TheVariants.Nothing = Gave s start us × (togo s < togo r)
-Stepped r s start us step.TheVariants.End = AllGiven r.cursor.bytes.now start r.opening us
+-- falls with each unit
+abbrev pub togo : UnitReader → ℕ
+togo r = 3 * (length r.literal.inside.bytes.now - r.cursor.place.at) + length (listed r.pending)
 
 -- a number of units is that of the literal's value, if it has one
 pub record CountedUnits (bs : List ℕ) (start : ℕ) (o : Opening) (n : ℕ) : Type 0 where

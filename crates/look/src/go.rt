@@ -5,8 +5,9 @@ ghost use Rattle.escapes.specs.Escapes.{is_template, units_told, faults_told, re
 ghost use Rattle.pieces.specs.Pieces.{GoesOn, StopRead};
 ghost use Rattle.look.specs.Goes.{GoRead, PassedRead};
 
-use escapes::unicode::Escape;
+use escapes::unicode::{Given, Invalid};
 use pieces::piece::{Ending, Stop};
+use std::ops::ControlFlow;
 
 // A stop that the literal passes: whether it is a fault, whether a value is still cooked, whether it marks the literal, and the place behind it.
 #[derive(Clone, Copy)]
@@ -17,50 +18,44 @@ pub struct Passed {
     pub next: usize,
 }
 
-#[derive(Clone, Copy)]
-pub enum Go {
-    On(Passed),
-    End(Ending, usize),
-}
-
 // An escape.
-fn pass_escape(escape: Escape, in_template: bool) -> Passed
+fn pass_escape(escape: Result<Given, Invalid>, in_template: bool) -> Passed
     ensures { (b : Body) (bs : List ℕ) (p : ℕ) → is_template b ≡ in_template → GoesOn b bs p (units_told (is_template b) escape) (faults_told (is_template b) p escape) true (reached escape) → PassedRead b bs p result }
 {
     match escape {
-        Escape::Gives(_, next) => Passed {
+        Ok(given) => Passed {
             faulty: false,
             cooked: true,
             marked: true,
-            next,
+            next: given.next,
         },
-        Escape::Invalid(next) => Passed {
+        Err(invalid) => Passed {
             faulty: !in_template,
             cooked: !in_template,
             marked: true,
-            next,
+            next: invalid.next,
         },
     }
 }
 
-// Any stop.
-pub fn go_by(stop: Stop, in_template: bool) -> Go
+// Any stop: what is passed, or the literal's ending and end.
+pub fn go_by(stop: Stop, in_template: bool) -> ControlFlow<(Ending, usize), Passed>
     ensures { (b : Body) (bs : List ℕ) (p : ℕ) → is_template b ≡ in_template → StopRead b bs p stop → GoRead b bs p result }
 {
     match stop {
-        Stop::Escape(escape) => Go::On(pass_escape(escape, in_template)),
-        Stop::Return(next) => Go::On(Passed {
+        Stop::Escape(escape) => ControlFlow::Continue(pass_escape(escape, in_template)),
+        Stop::Return(next) => ControlFlow::Continue(Passed {
             faulty: false,
             cooked: true,
             marked: true,
             next,
         }),
-        Stop::Dollar(next) => Go::On(Passed {
+        Stop::Dollar(next) => ControlFlow::Continue(Passed {
             faulty: false,
             cooked: true,
             marked: false,
             next,
         }),
-        Stop::End(ending, end) => Go::End(ending, end),
+        Stop::End(ending, end) => ControlFlow::Break((ending, end)),
     }
 }

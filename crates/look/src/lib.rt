@@ -3,8 +3,10 @@
 
 pub mod answer;
 pub mod faulty;
+pub mod giving;
 pub mod go;
+pub mod literal;
 pub mod look;
-pub mod readers;
 pub mod run;
+pub mod telling;
 pub mod units;

@@ -1,19 +1,20 @@
 //! Replays data/cases.txt: looks at literals, with their units and faults, each with the answer expected of it.
 #![tactic(auto)]
 
+ghost use Rattle.std.specs.Iterator.{IsFinite};
+
 use anyhow::bail;
 use faults::Fault;
 use look::answer::{Look, Scan};
-use look::faulty::{FaultReader, FaultStep};
-use look::look::look;
-use look::units::{UnitReader, UnitStep};
-use pieces::piece::Opening;
+use look::literal::Literal;
 use replaying::{cut, replay, unhexed};
-use source::cursor::Cursor;
 use source::text::Text;
 use std::alloc::Global;
 use std::fmt::Write;
+use tokens::Token;
 
+// A function and no `FromStr`: the trait and the type both are of other crates, and a type of this one around a `Scan` is
+// no plainer.
 fn scan_named(word: &str) -> anyhow::Result<Scan> {
     match word {
         "string" => Ok(Scan::Str),
@@ -23,107 +24,68 @@ fn scan_named(word: &str) -> anyhow::Result<Scan> {
     }
 }
 
-fn opening_of(byte: Option<u8>) -> Opening {
-    match byte {
-        Some(b'\'') => Opening::Single,
-        Some(b'`') => Opening::Template,
-        Some(b'}') => Opening::Resumption,
-        _ => Opening::Double,
-    }
-}
-
-// Writes the units, joined by commas.
-fn write_units(out: &mut String, cursor: Cursor<'_>, opening: Opening) -> anyhow::Result<()> {
-    let mut reader = UnitReader::new(cursor, opening);
-    let mut first = true;
-    for _ in 0..1_000_000u32 {
-        match reader.step() {
-            UnitStep::Unit(unit) => {
-                if !first {
-                    out.push(',')?;
-                }
-                first = false;
-                write!(out, "{unit:04X}")?;
-            }
-            UnitStep::Nothing => {}
-            UnitStep::End => break,
-        }
-    }
-    if first {
-        out.push('-')?;
-    }
-    Ok(())
-}
-
-fn write_fault(out: &mut String, fault: Fault) -> anyhow::Result<()> {
-    let Fault { kind, from, to } = fault;
-    write!(out, "{}:{from}:{to}", kind.number())?;
-    Ok(())
-}
-
-// Writes the faults, joined by commas.
-fn write_faults(
+// Writes each item, joined by commas, and `-` where there is none.
+fn write_joined<T: Drop, I, F>(
     out: &mut String,
-    cursor: Cursor<'_>,
-    opening: Opening,
-    start: usize,
-) -> anyhow::Result<()> {
-    let mut reader = FaultReader::new(cursor, opening, start);
-    let mut first = true;
-    for _ in 0..1_000_000u32 {
-        match reader.step() {
-            FaultStep::Fault(fault) => {
-                if !first {
-                    out.push(',')?;
-                }
-                first = false;
-                write_fault(out, fault)?;
-            }
-            FaultStep::Nothing => {}
-            FaultStep::End => break,
-        }
-    }
-    if first {
+    mut items: I,
+    mut write_item: F,
+) -> anyhow::Result<()>
+where
+    I: Iterator<Item = T> + Drop,
+    F: FnMut(&mut String, T) -> anyhow::Result<()>,
+    requires can { I.can_next items }
+    requires ends { IsFinite (I.remaining items) }
+    requires call { F.IsAlwaysCallable write_item }
+{
+    let Some(first) = items.next() else {
         out.push('-')?;
+        return Ok(());
+    };
+    write_item(out, first)?;
+    for item in items {
+        out.push(',')?;
+        write_item(out, item)?;
     }
     Ok(())
 }
 
-// What a look tells, and what the readers of units and faults do.
-fn write_look(out: &mut String, text: Text<'_>, start: usize, seen: Look) -> anyhow::Result<()> {
-    let kind = seen.token.kind;
-    let end = seen.token.end;
-    let mark = if seen.token.escaped {
-        "escaped"
-    } else {
-        "plain"
-    };
+// What a look tells of a literal, its units and its faults.
+fn write_literal(out: &mut String, literal: Literal<'_>) -> anyhow::Result<()> {
+    let Look { token, units, .. } = literal.look();
+    let Token {
+        kind,
+        end,
+        escaped,
+        ..
+    } = token;
+    let mark = if escaped { "escaped" } else { "plain" };
     write!(out, "{kind} {end} {mark} ")?;
-    let mut cursor = Cursor::new(text);
-    cursor.move_to(start);
-    let opening = opening_of(cursor.peek());
-    let _ = cursor.next();
-    if seen.cooked {
-        write_units(out, cursor, opening)?;
+    if units.is_some() {
+        write_joined(
+            out,
+            literal.units(),
+            |out, unit| Ok(write!(out, "{unit:04X}")?),
+        )?;
     } else {
         out.push_str("none")?;
     }
     out.push(' ')?;
-    write_faults(out, cursor, opening, start)
+    write_joined(out, literal.faults(), |out, fault| {
+        let Fault { kind, from, to } = fault;
+        Ok(write!(out, "{}:{from}:{to}", kind.number())?)
+    })
 }
 
 // Whether a case gives the answer that its line expects.
 fn agrees(heap: Global, line: &str) -> anyhow::Result<bool> {
-    let (word, rest) = cut(line)?;
-    let scan = scan_named(word)?;
-    let (place, rest) = cut(rest)?;
-    let (hex, expected) = cut(rest)?;
-    let start = place.parse::<usize>()?;
-    let bytes = unhexed(heap, hex)?;
+    let (scan, rest) = cut(line)?;
+    let (start, rest) = cut(rest)?;
+    let (word, expected) = cut(rest)?;
+    let bytes = unhexed(heap, word)?;
     let text = Text::new(bytes.as_slice());
     let mut told = String::new(heap);
-    match look(text, start, scan) {
-        Ok(seen) => write_look(&mut told, text, start, seen)?,
+    match Literal::find(text, start.parse::<usize>()?, scan_named(scan)?) {
+        Ok(literal) => write_literal(&mut told, literal)?,
         Err(refusal) => write!(told, "refused {refusal}")?,
     }
     Ok(told.as_str() == expected)

@@ -1,5 +1,6 @@
 -- What stops a run of plain characters. Assumes nothing.
-use Rattle.std.proofs.Common.{◌≡◌, ℕ, ◌+◌, ◌<◌, ◌≤◌, Bool, true, false, ◌||◌, T, eqb, ◌⊎◌, List, [], ◌∷◌, length, get_or, drop, Some, None, IsUtf8, sym, refl, ap, ◌∙◌, subst, inl, inr, ⊎_elim, arith}
+use Rattle.std.proofs.Common.{◌≡◌, ℕ, ◌+◌, ◌<◌, ◌≤◌, Bool, true, false, ◌||◌, T, eqb, ◌⊎◌, List, [], ◌∷◌, length, get_or, drop, Some, None, Option, Result, IsUtf8, sym, refl, ap, ◌∙◌, subst, inl, inr, ⊎_elim, arith}
+use Rattle.std.specs.Option.{MatchOption, unwrap_or}
 use Rattle.std.specs.Str.{IsCharBoundary}
 use Rattle.std.proofs.lemmas.Bool.{eqb-true, ne_eqb}
 use Rattle.std.proofs.lemmas.Str.{IsCharBoundary-end}
@@ -18,7 +19,8 @@ use Rattle.source.specs.Texts.{WellFormed}
 use Rattle.source.proofs.Known.{utf8_from}
 use Rattle.escapes.specs.Places.{At, Here}
 use Rattle.escapes.specs.Escapes.{is_template, units_told, faults_told, reached, EscapeRead}
-use Rattle.escapes.specs.declared.unicode.Escape.{Escape}
+use Rattle.escapes.specs.declared.unicode.Given.{Given}
+use Rattle.escapes.specs.declared.unicode.Invalid.{Invalid}
 use Rattle.escapes.proofs.Looks.{here, over_at, two_here, second_ahead}
 use Rattle.escapes.proofs.Nodes.{stop}
 use Rattle.escapes.proofs.Parts.{one_step}
@@ -42,19 +44,23 @@ unless t q b h = (refl, refl, h)
 module _ (bs : List ℕ) (p : ℕ) where
   -- TEMPLATES
 
-  pub raw_crlf : (q : ℕ) → Here bs p 13 → Begins 13 10 (drop p bs) × (q ≡ p + 2) → GoesOn template bs p (Some (10 ∷ [])) [] true q
+  raw_crlf : (q : ℕ) → Here bs p 13 → Begins 13 10 (drop p bs) × (q ≡ p + 2) → GoesOn template bs p (Some (10 ∷ [])) [] true q
   raw_crlf q h (b, i) =
       let (e, a) = second bs p 10 (two_here bs p 13 10 h.at (omega arith) (omega arith) b).1 in
       subst (GoesOn template bs p (Some (10 ∷ [])) [] true) (sym i)
       (record { part = one_step template (utf8 bs) (grammar.proper (line_terminator crlf)) p (p + 2) (13 ∷ 10 ∷ []) (_, _, _, h.step, refl, tt, (_, _, _, e, refl, tt, stop (utf8 bs) (p + 2))); behind = a; moves = omega arith })
 
-  pub raw_cr : Here bs p 13 → (Begins 13 10 (drop p bs) → ⊥) → GoesOn template bs p (Some (10 ∷ [])) [] true (p + 1)
+  raw_cr : Here bs p 13 → (Begins 13 10 (drop p bs) → ⊥) → GoesOn template bs p (Some (10 ∷ [])) [] true (p + 1)
   raw_cr h n =
       record {
         part = one_step template (utf8 bs) (grammar.proper (line_terminator cr)) p (p + 1) (13 ∷ []) (_, _, _, h.step, refl, tt, unless (utf8 bs) (p + 1) 10 (second_ahead bs p 13 10 (omega arith) h n));
         behind = h.behind;
         moves = omega arith;
       }
+
+  pub raw_return : (r : Option ℕ) (q : ℕ) → q ≡ unwrap_or r (p + 1) → Here bs p 13 → MatchOption r (Begins 13 10 (drop p bs) → ⊥) (λ q. Begins 13 10 (drop p bs) × (q ≡ p + 2)) → GoesOn template bs p (Some (10 ∷ [])) [] true q
+  raw_return None q e h n = rw e (raw_cr h n)
+  raw_return (Some r) q e h k = rw e (raw_crlf r h k)
 
   pub lone_dollar : Here bs p 36 → (p + 1 < length bs → get_or bs (p + 1) 0 ≡ 123 → ⊥) → GoesOn template bs p (Some (36 ∷ [])) [] false (p + 1)
   lone_dollar h n =
@@ -84,7 +90,7 @@ module _ (bs : List ℕ) (p : ℕ) where
 
   -- STRINGS
 
-  pub line_break_lem : (b : Body) (c : ℕ) → is_template b ≡ false → Here bs p c → (c ≡ 13) ⊎ (c ≡ 10) → Ends b bs p (grammar.broken recovery.line_break) (p + 1)
+  pub line_break_lem : (b : Body) (c : ℕ) → is_template b ≡ false → Here bs p c → (c ≡ 10) ⊎ (c ≡ 13) → Ends b bs p (grammar.broken recovery.line_break) (p + 1)
   line_break_lem double c i h k = ends double bs p (p + 1) (grammar.broken recovery.line_break) (c ∷ []) (_, _, _, h.step, refl, ⊎_elim (λ e. rw e tt) (λ e. rw e tt) k, stop (utf8 bs) (p + 1)) h.behind (omega arith)
   line_break_lem single c i h k = ends single bs p (p + 1) (grammar.broken recovery.line_break) (c ∷ []) (_, _, _, h.step, refl, ⊎_elim (λ e. rw e tt) (λ e. rw e tt) k, stop (utf8 bs) (p + 1)) h.behind (omega arith)
   line_break_lem template c i h k = let z : ◌≡◌ {A = ℕ} 0 1 = cc in absurd (omega arith)
@@ -128,7 +134,7 @@ module _ (bs : List ℕ) (p : ℕ) where
 
 -- the escape behind a backslash, as the cursor that was moved there read it
 pub escaped :
-    (bs bs' : List ℕ) (p q : ℕ) (m : Bool) (b : Body) (e : Escape) → bs' ≡ bs → q ≡ p + 1 → m ≡ is_template b → Here bs p 92 → EscapeRead m bs' q (Some e)
+    (bs bs' : List ℕ) (p q : ℕ) (m : Bool) (b : Body) (e : Result Given Invalid) → bs' ≡ bs → q ≡ p + 1 → m ≡ is_template b → Here bs p 92 → EscapeRead m bs' q (Some e)
     → GoesOn b bs p (units_told (is_template b) e) (faults_told (is_template b) p e) true (reached e) × (p + 1 < reached e)
 escaped bs bs' p q m b e f g i h x =
     let y = subst (λ (z : Bool). EscapeRead z bs (p + 1) (Some e)) i (subst (λ (z : ℕ). EscapeRead m bs z (Some e)) g (subst (λ (z : List ℕ). EscapeRead m z q (Some e)) f x)) in

@@ -7,14 +7,14 @@ ghost use Rattle.escapes.specs.Places.{Here};
 ghost use Rattle.escapes.specs.Escapes.{is_template};
 ghost use Rattle.pieces.specs.Pieces.{body_of, stops_in, StopRead, PieceRead};
 
-use escapes::unicode::{Escape, read_escape};
+use escapes::unicode::{Given, Invalid, read_escape};
 use source::cursor::Cursor;
 use source::fronts::behind;
 use stops::search::search;
 use stops::sets::{DoubleQuote, SingleQuote, Template};
 
 // What a literal opens with: either quote, a backtick, or the brace behind a substitution.
-#[derive(Clone, Copy)]
+#[derive(Clone, Copy, PartialEq, Eq, Debug)]
 pub enum Opening {
     Double,
     Single,
@@ -23,7 +23,7 @@ pub enum Opening {
 }
 
 // How a literal ends, or breaks off.
-#[derive(Clone, Copy)]
+#[derive(Clone, Copy, PartialEq, Eq, Debug)]
 pub enum Ending {
     Closed,
     Substitution,
@@ -33,16 +33,16 @@ pub enum Ending {
 }
 
 // What stops a run of plain characters, and the place behind it.
-#[derive(Clone, Copy)]
+#[derive(Clone, Copy, PartialEq, Eq, Debug)]
 pub enum Stop {
-    Escape(Escape),
+    Escape(Result<Given, Invalid>),
     Return(usize),
     Dollar(usize),
     End(Ending, usize),
 }
 
 // Plain characters up to a place, and what stops them there.
-#[derive(Clone, Copy)]
+#[derive(Clone, Copy, PartialEq, Eq, Debug)]
 pub struct Piece {
     pub to: usize,
     pub stop: Stop,
@@ -67,8 +67,7 @@ fn find_stop(bytes: &[u8], at: usize, opening: Opening) -> Option<(usize, u8)>
     match opening {
         Opening::Double => search(&DoubleQuote, bytes, at),
         Opening::Single => search(&SingleQuote, bytes, at),
-        Opening::Template => search(&Template, bytes, at),
-        Opening::Resumption => search(&Template, bytes, at),
+        Opening::Template | Opening::Resumption => search(&Template, bytes, at),
     }
 }
 
@@ -85,22 +84,14 @@ fn backslash(cursor: Cursor<'_>, at: usize, opening: Opening) -> Stop
     }
 }
 
-// Whether a byte stands at a place.
-fn stands(bytes: &[u8], at: usize, b: u8) -> bool
-    ensures { MatchBool result ((at < length bytes.now) × (slice_index bytes.now at ≡ b)) ((at < length bytes.now → slice_index bytes.now at ≢ b)) }
-{
-    at < bytes.len() && bytes[at] == b
-}
-
 // A dollar sign in a template.
 fn dollar(bytes: &[u8], at: usize) -> Stop
     requires { Here bytes.now at 36 }
     ensures { StopRead template bytes.now at result }
 {
-    if stands(bytes, at + 1, b'{') {
-        Stop::End(Ending::Substitution, at + 2)
-    } else {
-        Stop::Dollar(at + 1)
+    match bytes.get(at + 1) {
+        Some(b'{') => Stop::End(Ending::Substitution, at + 2),
+        _ => Stop::Dollar(at + 1),
     }
 }
 
@@ -109,10 +100,8 @@ fn carriage_return(bytes: &[u8], at: usize) -> Stop
     requires { Here bytes.now at 13 }
     ensures { StopRead template bytes.now at result }
 {
-    match behind::<b'\r', b'\n'>(bytes, at) {
-        Some(behind) => Stop::Return(behind),
-        None => Stop::Return(at + 1),
-    }
+    let next = behind::<b'\r', b'\n'>(bytes, at).unwrap_or(at + 1);
+    Stop::Return(next)
 }
 
 // A stop of a string that is no backslash.
@@ -120,11 +109,11 @@ fn string_stop(bytes: &[u8], at: usize, byte: u8, opening: Opening) -> Stop
     requires { (Here bytes.now at byte) × ((stops_in (body_of opening) byte ≡ true) × (((byte ≢ 92)) × (is_template (body_of opening) ≡ false))) }
     ensures { StopRead (body_of opening) bytes.now at result }
 {
-    if byte == b'\r' || byte == b'\n' {
-        Stop::End(Ending::LineBreak, at + 1)
-    } else {
-        Stop::End(Ending::Closed, at + 1)
-    }
+    let ending = match byte {
+        b'\r' | b'\n' => Ending::LineBreak,
+        _ => Ending::Closed,
+    };
+    Stop::End(ending, at + 1)
 }
 
 // A stop of a template that is no backslash.
@@ -132,12 +121,10 @@ fn template_stop(bytes: &[u8], at: usize, byte: u8) -> Stop
     requires { (Here bytes.now at byte) × ((stops_in template byte ≡ true) × ((byte ≢ 92))) }
     ensures { StopRead template bytes.now at result }
 {
-    if byte == b'$' {
-        dollar(bytes, at)
-    } else if byte == b'\r' {
-        carriage_return(bytes, at)
-    } else {
-        Stop::End(Ending::Closed, at + 1)
+    match byte {
+        b'$' => dollar(bytes, at),
+        b'\r' => carriage_return(bytes, at),
+        _ => Stop::End(Ending::Closed, at + 1),
     }
 }
 

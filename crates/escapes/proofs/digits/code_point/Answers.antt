@@ -1,22 +1,25 @@
-use Rattle.std.proofs.Common.{refl, arith}
-use Rattle.escapes.proofs.Numerals.{digits_first, digits_next, digits_lift, digits_fit}
+use Rattle.std.proofs.Common.{◌+◌, arith}
+use Rattle.escapes.proofs.Numerals.{took_first, took_more, took_end, took_lift, took_fit}
 use Rattle.escapes.proofs.digits.code_point.Goals as goal
 
 pub loop-digit-init : goal.loop-digit-init
-loop-digit-init c = let d = digits_first c.args.bytes.now c.args.at _ c.in-Some.ensures.digit_at in (d.0, d.1, omega (arith, c.in-Some.ensures.small))
+loop-digit-init c =
+    rw c.from-value.ensures (1, took_first c.args.cursor c.in-Some.first c.next.new.self c.in-Some.ensures.steps, omega arith, omega (arith, c.in-Some.ensures.steps.3))
 
 pub returns-then-value-gt1114111 : goal.returns-then-value-gt1114111
 returns-then-value-gt1114111 c =
-    digits_lift c.args.bytes.now c.args.at c.loop-digit.value c.loop-digit.to _ _ c.in-Some-hex_at.digit refl c.loop-digit.invariant.0 refl c.in-Some-hex_at.ensures.digit_at c.loop-digit.invariant.2 c.if-value-gt1114111.true
+    let (n, t, _, l) = c.loop-digit.invariant in
+    let f = c.if-value-gt1114111.true in
+    rw c.place.ensures (took_lift _ _ c.loop-digit.value n c.in-Some-next.digit _ c.next-in-loop-digit.new.self t l c.in-Some-next.ensures.steps (rw c.from.ensures at f))
 
 pub loop-digit-preserved : goal.loop-digit-preserved
 loop-digit-preserved c =
-    let d = digits_next c.args.bytes.now c.args.at c.loop-digit.value c.loop-digit.to c.in-Some-hex_at.digit c.loop-digit.invariant.0 c.in-Some-hex_at.ensures.digit_at in
-    (d.0, d.1, c.if-value-gt1114111.false)
+    let (n, t, _, _) = c.loop-digit.invariant in
+    let f = c.if-value-gt1114111.false in
+    rw c.from.ensures (n + 1, took_more _ _ c.loop-digit.value n _ _ c.next-in-loop-digit.new.self t c.in-Some-next.ensures.steps, omega arith, rw c.from.ensures at f)
 
 pub returns : goal.returns
-returns c = (
-  c.loop-digit.invariant.0,
-  digits_fit c.args.bytes.now c.args.at c.loop-digit.value c.loop-digit.to c.loop-digit.invariant.0 c.loop-digit.invariant.1 c.loop-digit.invariant.2,
-  c.in_default.ensures.digit_at,
-)
+returns c =
+    let (n, t, l, m) = c.loop-digit.invariant in
+    let (u, a) = took_end _ _ c.loop-digit.value n _ c.next-in-loop-digit.new.self t c.in_default-next.ensures.steps in
+    rw c.place-2.ensures (u.digits, took_fit _ _ c.loop-digit.value n c.next-in-loop-digit.new.self u l m, a)

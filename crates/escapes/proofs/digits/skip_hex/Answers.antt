@@ -1,5 +1,8 @@
-use Rattle.escapes.proofs.Numerals.{digits_next}
+use Rattle.std.proofs.Common.{◌+◌, arith}
+use Rattle.escapes.proofs.Numerals.{skipped}
 use Rattle.escapes.proofs.digits.skip_hex.Goals as goal
 
-pub loop-to-preserved : goal.loop-to-preserved
-loop-to-preserved c = (_, (digits_next c.args.bytes.now c.args.at c.loop-to.invariant.0 c.loop-to.to _ c.loop-to.invariant.1 c.in-Some.ensures.digit_at).0)
+pub returns : goal.returns
+returns c =
+    let (ds, (u, (t, y, n)), l) = c.count.ensures.ran in
+    skipped c.args.cursor t u ds (c.place.result + c.count.result) y n (omega (arith, c.place.ensures, l))

@@ -1,16 +1,16 @@
-use Rattle.std.proofs.Common.{ap, ◌∙◌, arith, rules}
+use Rattle.std.proofs.Common.{ap, ◌∙◌, rules}
 use Rattle.escapes.proofs.Behinds.{prefix_at, low_by}
 use Rattle.escapes.proofs.unicode.low_half.Goals as goal
 
-pub hex_digits-requires : goal.hex_digits-requires
-hex_digits-requires c =
+pub moved-requires : goal.moved-requires
+moved-requires c =
     let s = c.begin-trial.ensures.start in
     let k = c.if-not-take_unicode_prefix.ensures.cases in
-    ((prefix_at c.args.bytes.now _ c.args.place.now.at _ _ (ap (λ z. z.at) s.1) s.2 c.requires k.0 (c.at.ensures ∙ k.1)).2, omega arith)
+    (prefix_at c.args.cursor.bytes.now _ c.args.place.now.at _ _ (ap (λ z. z.at) s.1) (s.2 ∙ c.bytes.ensures) c.requires k.0 (c.at.ensures ∙ k.1)).2.boundary
 
-pub returns-else-low-gt57343 : goal.returns-else-low-gt57343
-returns-else-low-gt57343 c =
+pub returns : goal.returns
+returns c =
     let s = c.begin-trial.ensures.start in
     let k = c.if-not-take_unicode_prefix.ensures.cases in
-    let d = c.in-All.ensures in
-    low_by c.args.bytes.now _ c.args.place.now.at _ _ c.in-All.low c.in-All.to _ (ap (λ z. z.at) s.1) s.2 c.requires k.0 (c.at.ensures ∙ k.1) d.0 d.1 (search rules) (omega arith) (omega arith)
+    let (d, n) = rw c.moved.ensures.0 at (rw c.moved.ensures.1 at c.in-Ok.ensures) in
+    low_by c.args.cursor.bytes.now _ c.args.place.now.at _ _ c.in-Ok.low c.in-Ok.to _ (ap (λ z. z.at) s.1) (s.2 ∙ c.bytes.ensures) c.requires k.0 (c.at.ensures ∙ k.1) d n (search rules) (search rules) (search rules)

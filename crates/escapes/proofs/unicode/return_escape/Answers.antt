@@ -1,8 +1,7 @@
-use Rattle.escapes.proofs.Behinds.{crlf, return}
+use Rattle.escapes.proofs.Behinds.{return_by}
 use Rattle.escapes.proofs.unicode.return_escape.Goals as goal
 
-pub returns-in-Some : goal.returns-in-Some
-returns-in-Some c m = crlf c.args.bytes.now c.args.at m c.in-Some.behind c.requires c.in-Some.ensures
-
-pub returns-in-None : goal.returns-in-None
-returns-in-None c m = return c.args.bytes.now c.args.at m c.requires c.in-None.ensures
+pub returns : goal.returns
+returns c m =
+    let h = rw c.bytes.ensures at (rw c.place-at.ensures at c.behind.ensures) in
+    rw c.unwrap_or.ensures (rw c.place-at.ensures (return_by c.args.cursor.bytes.now c.args.cursor.place.at m c.behind.result c.requires h))

@@ -1,16 +1,12 @@
-use Rattle.std.proofs.Common.{◌<◌, length, get_or, sym, ap, ◌∙◌, arith}
-use Rattle.look.specs.Looked.{opens}
+use Rattle.std.proofs.Common.{◌<◌, length, subst}
+use Rattle.look.specs.Looked.{LookedAt}
 use Rattle.look.proofs.Looking.{accepts}
 use Rattle.look.proofs.look.look.Goals as goal
 
-pub returns-in-Some : goal.returns-in-Some
-returns-in-Some c =
-    let bs = c.args.text.bytes.now in
-    let e = c.bytes-bytes.ensures.bytes in
-    let h = c.in-Some.ensures in
-    let n : c.args.start < length bs = let k = ap length e in omega (arith, c.if-start-bytes.false) in (
-      n,
-      ap (λ z. opens c.args.scan (get_or z c.args.start 0)) (sym e) ∙ h.0,
-      (c.in-Some.opening, h.2, c.look_at.ensures),
-      accepts bs c.args.start c.in-Some.opening c.look_at.result c.look_at.ensures,
-    )
+pub returns : goal.returns
+returns c =
+    let (e, f, o, s) = c.in_ok-find.ensures in
+    let l = c.in_ok-find.field-0 in
+    let n = subst (λ z. c.args.start < length z) e (subst (λ z. z < length l.inside.bytes.now) f l.within) in
+    let k = subst (λ z. LookedAt z c.args.start l.opening c.look.result) e (subst (λ z. LookedAt l.inside.bytes.now z l.opening c.look.result) f c.look.ensures) in
+    (n, o, (l.opening, s, k), accepts c.args.text.bytes.now c.args.start l.opening c.look.result k)

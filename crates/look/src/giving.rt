@@ -1,0 +1,126 @@
+// How the units of a literal are read.
+ghost use Rattle.std.specs.Prelude.{◌≡◌, ℕ, ◌<◌, ◌≤◌, List, [], ◌∷◌, MatchOption, OnSome};
+ghost use Rattle.std.specs.Iterator.{at_most};
+ghost use Rattle.grammar.specs.Literal.{Body};
+ghost use Rattle.escapes.specs.Escapes.{listed};
+ghost use Rattle.pieces.specs.Pieces.{StopRead};
+ghost use Rattle.look.specs.Units.{GivenRead, Gave, GaveAll, Gives, togo};
+
+use crate::literal::Literal;
+use crate::units::UnitReader;
+use escapes::unicode::{Given, Units, units_of};
+use pieces::piece::{Stop, next_piece};
+
+// What a stop gives and the place where the literal goes on, or none at its end.
+fn given_by(stop: Stop) -> Option<Given>
+    ensures { (b : Body) (bs : List ℕ) (p : ℕ) → StopRead b bs p stop → GivenRead b bs p result }
+{
+    match stop {
+        Stop::Escape(Ok(given)) => Some(given),
+        Stop::Escape(Err(invalid)) => Some(Given {
+            units: Units::Nothing,
+            next: invalid.next,
+        }),
+        Stop::Return(next) => Some(Given {
+            units: Units::One(10),
+            next,
+        }),
+        Stop::Dollar(next) => Some(Given {
+            units: Units::One(36),
+            next,
+        }),
+        Stop::End(_, _) => None,
+    }
+}
+
+// Takes the first of some units.
+fn take_first(units: &mut Units) -> Option<u16>
+    ensures { MatchOption result ((listed units.old ≡ []) × (units.new ≡ units.old)) (λ u. listed units.old ≡ u ∷ listed units.new) }
+{
+    match *units {
+        Units::Nothing => None,
+        Units::One(unit) => {
+            *units = Units::Nothing;
+            Some(unit)
+        }
+        Units::Two(first, second) => {
+            *units = Units::One(second);
+            Some(first)
+        }
+    }
+}
+
+impl<'t> Literal<'t> {
+    // The units, one after the other.
+    pub fn units(self) -> UnitReader<'t>
+        ensures literal { result.literal ≡ self.entry }
+        ensures gave { Gave result [] }
+    {
+        UnitReader {
+            literal: self,
+            cursor: self.inside,
+            piece: next_piece(self.inside, self.opening),
+            pending: Units::Nothing,
+        }
+    }
+}
+
+impl UnitReader<'_> {
+    // Reads the character at the place.
+    fn read_plain(&mut self) -> Option<()>
+        requires { (listed self.old.pending ≡ []) × (self.old.cursor.place.at < self.old.piece.to) }
+        ensures literal { self.new.literal ≡ self.old.literal }
+        ensures gave { (us : List ℕ) → Gave self.old us → MatchOption result (GaveAll self.old us) (λ _. Gave self.new us) }
+        ensures nearer { OnSome result (togo self.new < togo self.old) }
+    {
+        let (c, behind) = self.cursor.peek_char()?;
+        self.cursor.move_to(behind);
+        self.pending = units_of(c);
+        Some(())
+    }
+
+    // Reads the stop behind the plain characters, and the next piece; none at the literal's end.
+    fn read_stop(&mut self) -> Option<()>
+        requires { (listed self.old.pending ≡ []) × (self.old.piece.to ≤ self.old.cursor.place.at) }
+        ensures literal { self.new.literal ≡ self.old.literal }
+        ensures gave { (us : List ℕ) → Gave self.old us → MatchOption result (GaveAll self.old us) (λ _. Gave self.new us) }
+        ensures nearer { OnSome result (togo self.new < togo self.old) }
+    {
+        let given = given_by(self.piece.stop)?;
+        self.cursor.move_to(given.next);
+        self.piece = next_piece(self.cursor, self.literal.opening);
+        self.pending = given.units;
+        Some(())
+    }
+
+    // Reads on, where no unit is pending; none at the literal's end.
+    fn read_on(&mut self) -> Option<()>
+        requires { listed self.old.pending ≡ [] }
+        ensures literal { self.new.literal ≡ self.old.literal }
+        ensures gave { (us : List ℕ) → Gave self.old us → MatchOption result (GaveAll self.old us) (λ _. Gave self.new us) }
+        ensures nearer { OnSome result (togo self.new < togo self.old) }
+    {
+        if self.cursor.place() < self.piece.to {
+            self.read_plain()
+        } else {
+            self.read_stop()
+        }
+    }
+}
+
+impl Iterator for UnitReader<'_> {
+    type Item = u16;
+
+    ghost next_gives = { Gives };
+
+    ghost remaining = { λ r. at_most (togo r) };
+
+    fn next(&mut self) -> Option<u16> {
+        'reads: loop {
+            if let Some(unit) = take_first(&mut self.pending) {
+                return Some(unit);
+            }
+            self.read_on()?;
+        }
+    }
+}
