@@ -35,8 +35,8 @@ impl fmt::Display for Tally {
     }
 }
 
-/// Asks about each line of a text whether it agrees, and prints those that do not.
-pub fn replay_text<R: Print, F: FnMut(&str) -> anyhow::Result<bool>>(
+// Asks about each line of a text whether it agrees, and prints those that do not.
+fn replay_text<R: Print, F: FnMut(&str) -> anyhow::Result<bool>>(
     rt: &R,
     text: &str,
     mut agrees: F,
@@ -55,7 +55,7 @@ pub fn replay_text<R: Print, F: FnMut(&str) -> anyhow::Result<bool>>(
     Ok(tally)
 }
 
-/// The same of the lines of a file.
+/// Asks about each line of a file whether it agrees, and prints those that do not.
 pub fn replay<R: Files + AllocGlobal + Print, F: FnMut(&str) -> anyhow::Result<bool>>(
     rt: &R,
     path: &str,

@@ -5,5 +5,5 @@
 mod counts;
 mod words;
 
-pub use counts::{Tally, replay, replay_text};
+pub use counts::{Tally, replay};
 pub use words::{cut, unhexed};
