@@ -256,7 +256,7 @@ fn octal_escape(cursor: Cursor<'_>, first: u8) -> Given
         };
     };
     let two = u16::from(first * 8 + second);
-    if first > 3 {
+    if !(0..=3).contains(&first) {
         return Given {
             units: Units::One(two),
             next: at + 2,
