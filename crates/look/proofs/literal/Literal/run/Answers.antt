@@ -1,4 +1,4 @@
-use Rattle.std.proofs.Common.{sym, refl, ap, ◌∙◌, arith}
+use Rattle.std.proofs.Common.{sym, refl, ◌∙◌, arith}
 use Rattle.pieces.specs.Pieces.{body_of}
 use Rattle.look.proofs.Running.{upto_none, in_literal, on, reached_on, ran}
 use Rattle.look.proofs.literal.Literal.run.Goals as goal
