@@ -12,7 +12,7 @@ use Rattle.look.specs.declared.literal.Literal.{Literal}
 use Rattle.look.specs.declared.units.UnitReader.{UnitReader}
 use Rattle.look.specs.Units.{Gave, AllGiven, Gives}
 use Rattle.look.proofs.GivesUnits.{gave_drained}
-use Rattle.session.specs.Scans.{IsRead}
+use Rattle.session.specs.Literals.{IsRead}
 
 -- those that a loop over them took are all of them
 pub drained : (l : Literal) (q r : UnitReader) (us : List ℕ) → q.literal ≡ l → Gave q [] → r ≡ q → Drains Gives r us → AllGiven l.inside.bytes.now l.start l.opening us

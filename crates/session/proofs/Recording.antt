@@ -15,7 +15,8 @@ use Rattle.look.specs.declared.literal.Literal.{Literal}
 use Rattle.look.specs.declared.faulty.FaultReader.{FaultReader}
 use Rattle.look.specs.Told.{Told, AllTold, Tells}
 use Rattle.look.proofs.TellsFaults.{told_drained}
-use Rattle.session.specs.Scans.{IsRead, Recorded}
+use Rattle.session.specs.Literals.{IsRead}
+use Rattle.session.specs.Scans.{Recorded}
 
 -- those that a loop over them took are all of them
 pub drained : (l : Literal) (q r : FaultReader) (fs : List Fault) → q.literal ≡ l → Told q [] → r ≡ q → Drains Tells r fs → AllTold l.inside.bytes.now l.start l.opening fs

@@ -13,10 +13,12 @@ use store::ValueStore;
 use tokens::Token;
 
 mod entry;
+mod finding;
 mod life;
 mod perform;
 mod questions;
 mod scans;
+mod seen;
 
 pub use life::serve;
 

@@ -12,12 +12,14 @@ ghost use Rattle.ledger.specs.Calls as ask;
 ghost use Rattle.ledger.specs.Ledger.{of_string};
 ghost use Rattle.session.specs.Replies.{token_reply};
 ghost use Rattle.session.specs.Calls.{Plays};
-ghost use Rattle.session.specs.Scans.{sort_by, bytes_of, IsRead, Stores, Recorded, Files, Needed, needs, Keeps};
+ghost use Rattle.session.specs.Literals.{sort_by, IsRead};
+ghost use Rattle.session.specs.Scans.{bytes_of, Stores, Recorded, Files, Needed, needs, Keeps};
 
 use super::Session;
 use super::entry::Entry;
+use super::seen::Seen;
 use faults::FaultList;
-use look::answer::{Look, Scan};
+use look::answer::Scan;
 use look::literal::Literal;
 use refusals::Refusal;
 use slots::SlotMap;
@@ -72,30 +74,22 @@ impl<'a> Session<'a> {
     ) -> Result<Token, Refusal>
         ensures { Plays S.ValueStore.weight (bytes_of text.entry) (ask.scan (sort_by scan) start) self.old (S.ValueStore.held store.old) (token_reply result) self.new (S.ValueStore.held store.new) }
     {
-        let literal = Literal::find(text, start, scan)?;
-        let seen = literal.look();
-        if seen.faults > free_records(&self.faults) {
+        let seen = Seen::find(text, start, scan)?;
+        if seen.look.faults > free_records(&self.faults) {
             return Err(Refusal::NoRecord);
         }
-        self.keep(store, literal, scan, seen)?;
-        record(&mut self.faults, literal);
-        Ok(seen.token)
+        self.keep(store, seen)?;
+        record(&mut self.faults, seen.literal);
+        Ok(seen.look.token)
     }
 
     // Files a literal's value in the table of its sort, or that none is cooked, if it is escaped and its start has no entry there.
-    fn keep<S: ValueStore>(
-        &mut self,
-        store: &mut S,
-        literal: Literal<'_>,
-        scan: Scan,
-        seen: Look,
-    ) -> Result<(), Refusal>
-        requires { of_string (sort_by scan) ≡ true → is_some seen.units ≡ true }
-        ensures { (read : Read) → IsRead literal.entry read → is_some seen.units ≡ is_some (units_read read) → Keeps (of_string (sort_by scan)) S.ValueStore.weight self.old (S.ValueStore.held store.old) seen.token (units_read read) result self.new (S.ValueStore.held store.new) }
+    fn keep<S: ValueStore>(&mut self, store: &mut S, seen: Seen<'_>) -> Result<(), Refusal>
+        ensures { (read : Read) → IsRead seen.entry.literal read → Keeps (of_string (sort_by seen.entry.scan)) S.ValueStore.weight self.old (S.ValueStore.held store.old) seen.entry.look.token (units_read read) result self.new (S.ValueStore.held store.new) }
     {
-        match scan {
-            Scan::Str => keep(&mut self.strings, store, literal, seen),
-            Scan::Template | Scan::Resumption => keep(&mut self.templates, store, literal, seen),
+        match seen.scan {
+            Scan::Str => keep(&mut self.strings, store, seen),
+            Scan::Template | Scan::Resumption => keep(&mut self.templates, store, seen),
         }
     }
 }
@@ -104,36 +98,36 @@ impl<'a> Session<'a> {
 fn keep<S: ValueStore, V: Entry>(
     entries: &mut SlotMap<'_, V>,
     store: &mut S,
-    literal: Literal<'_>,
-    seen: Look,
+    seen: Seen<'_>,
 ) -> Result<(), Refusal>
-    requires { V.always ≡ true → is_some seen.units ≡ true }
-    ensures { (read : Read) → IsRead literal.entry read → is_some seen.units ≡ is_some (units_read read) → Needed (needs seen.token entries.old) V.holds S.ValueStore.weight entries.old (S.ValueStore.held store.old) seen.token.start (units_read read) result entries.new (S.ValueStore.held store.new) }
+    requires { V.always ≡ true → is_some seen.look.units ≡ true }
+    ensures { (read : Read) → IsRead seen.entry.literal read → Needed (needs seen.entry.look.token entries.old) V.holds S.ValueStore.weight entries.old (S.ValueStore.held store.old) seen.entry.look.token.start (units_read read) result entries.new (S.ValueStore.held store.new) }
 {
-    if !seen.token.escaped || entries.find(seen.token.start).is_some() {
+    let token = seen.look.token;
+    if !token.escaped || entries.find(token.start).is_some() {
         return Ok(());
     }
-    file(entries, store, literal, seen)
+    file(entries, store, seen)
 }
 
 // Stores a literal's units, if a value is cooked, and enters the value's number or none, if there are a slot, a place and capacity.
 fn file<S: ValueStore, V: Entry>(
     entries: &mut SlotMap<'_, V>,
     store: &mut S,
-    literal: Literal<'_>,
-    seen: Look,
+    seen: Seen<'_>,
 ) -> Result<(), Refusal>
-    requires { V.always ≡ true → is_some seen.units ≡ true }
-    ensures { (read : Read) → IsRead literal.entry read → is_some seen.units ≡ is_some (units_read read) → is_some (lookup (entries_of entries.old) seen.token.start) ≡ false → Files V.holds S.ValueStore.weight entries.old (S.ValueStore.held store.old) seen.token.start (units_read read) result entries.new (S.ValueStore.held store.new) }
+    requires { V.always ≡ true → is_some seen.look.units ≡ true }
+    ensures { (read : Read) → IsRead seen.entry.literal read → is_some (lookup (entries_of entries.old) seen.entry.look.token.start) ≡ false → Files V.holds S.ValueStore.weight entries.old (S.ValueStore.held store.old) seen.entry.look.token.start (units_read read) result entries.new (S.ValueStore.held store.new) }
 {
     if entries.count() >= entries.room() {
         return Err(Refusal::NoSlot);
     }
-    if seen.units.is_none() {
-        return entries.insert(seen.token.start, V::of(None));
+    let start = seen.look.token.start;
+    if seen.look.units.is_none() {
+        return entries.insert(start, V::of(None));
     }
-    let number = put_units(store, literal)?;
-    entries.insert(seen.token.start, V::of(Some(number)))
+    let number = put_units(store, seen.literal)?;
+    entries.insert(start, V::of(Some(number)))
 }
 
 // How many records are free.
