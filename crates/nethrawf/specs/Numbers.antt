@@ -1,5 +1,5 @@
 -- What the numbers that cross to C stand for. Assumes nothing.
-use Rattle.std.specs.Prelude.{ℕ, Bool, cond, Some, None, Option, ◌==◌}
+use Rattle.std.specs.Prelude.{ℕ, Bool, cond, is_some, unwrap_or, Some, None, Option, ◌==◌}
 use Rattle.faults.specs.Records.{kind_of}
 use Rattle.tokens.specs.declared.Kind.{Kind}
 use Rattle.tokens.specs.declared.Kind.TheVariants.{Undetermined, Str, NoSubstitutionTemplate, TemplateHead, TemplateMiddle, TemplateTail}
@@ -51,9 +51,9 @@ abbrev pub seen_of : Look → Seen
 seen_of l = record {
   kind = kind_number l.token.kind;
   mark = flag l.token.escaped;
-  cooked = flag l.cooked;
+  cooked = flag (is_some l.units);
   start = l.token.start;
   end = l.token.end;
   faults = l.faults;
-  units = l.units;
+  units = unwrap_or l.units 0;
 }

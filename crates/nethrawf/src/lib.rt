@@ -68,7 +68,7 @@ pub extern "C" fn nethrawf_serve_units(
     serve(heap, bytes, *room, &mut store, requests, responses)
 }
 
-// The same over a store of WTF-8 bytes.
+// The same over a store of WTF-8 bytes. C calls each store's export by a name of its own.
 #[unsafe(no_mangle)]
 pub extern "C" fn nethrawf_serve_wtf8(
     heap: Global,

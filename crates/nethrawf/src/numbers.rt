@@ -108,16 +108,16 @@ impl From<Look> for Seen {
         Seen {
             kind: kind_number(found.token.kind),
             mark: u32::from(found.token.escaped),
-            cooked: u32::from(found.cooked),
+            cooked: u32::from(found.units.is_some()),
             start: found.token.start,
             end: found.token.end,
             faults: found.faults,
-            units: found.units,
+            units: found.units.unwrap_or(0),
         }
     }
 }
 
-// The number of a kind.
+// The number of a kind. C needs a number; it is the place in the order of the kinds.
 fn kind_number(kind: Kind) -> u32
     ensures { result ≡ kind_number kind }
 {

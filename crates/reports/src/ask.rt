@@ -75,6 +75,7 @@ fn ask_units<S: ValueStore>(
     ensures { IfOk result (λ units. (length units.items ≡ many) × ((text : List ℕ) → Carries S.ValueStore.weight text session.now (S.ValueStore.held store.now) (units_told start units.items) session.now (S.ValueStore.held store.now))) }
 {
     let mut units = Vec::new(heap);
+    // a loop, since a closure for map and collect would have to state the law of each question
     for index in 0..many {
         let unit = session.unit(store, start, index).unwrap();
         units.push(unit)?;
@@ -91,6 +92,7 @@ pub fn ask_faults<S: ValueStore>(
     ensures { IfOk result (λ faults. (text : List ℕ) → Carries S.ValueStore.weight text session.now (S.ValueStore.held store.now) (all_faults_told faults.items) session.now (S.ValueStore.held store.now)) }
 {
     let mut faults = Vec::new(heap);
+    // a loop here too, for the same reason
     for index in 0..session.fault_count(store) {
         let fault = session.fault_at(store, index).unwrap();
         faults.push(fault)?;
