@@ -1,4 +1,4 @@
-//! Replays data/cases.txt: texts, stops, moves and characters, each with the answer expected of it.
+// Replays data/cases.txt: texts, stops, moves and characters, each with the answer expected of it.
 #![tactic(auto)]
 
 use anyhow::bail;

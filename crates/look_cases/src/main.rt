@@ -1,4 +1,4 @@
-//! Replays data/cases.txt: looks at literals, with their units and faults, each with the answer expected of it.
+// Replays data/cases.txt: looks at literals, with their units and faults, each with the answer expected of it.
 #![tactic(auto)]
 
 ghost use Rattle.std.specs.Iterator.{IsFinite};

@@ -5,7 +5,7 @@ ghost use Rattle.replaying.specs.Calls.{Counts};
 use std::rt::Files;
 use std::{fmt, fs};
 
-/// How many lines give the answer that they expect, and how many another.
+// How many lines give the answer that they expect, and how many another.
 #[derive(Clone, Copy, Debug, Default, PartialEq, Eq)]
 pub struct Tally {
     pub agree: u64,
@@ -55,7 +55,7 @@ fn replay_text<R: Print, F: FnMut(&str) -> anyhow::Result<bool>>(
     Ok(tally)
 }
 
-/// Asks about each line of a file whether it agrees, and prints those that do not.
+// Asks about each line of a file whether it agrees, and prints those that do not.
 pub fn replay<R: Files + AllocGlobal + Print, F: FnMut(&str) -> anyhow::Result<bool>>(
     rt: &R,
     path: &str,

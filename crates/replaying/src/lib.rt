@@ -1,5 +1,5 @@
-//! What the programs that replay cases share: the words of a line, the bytes that a word of hex digits writes, and how
-//! many lines give the answers that they expect.
+// What the programs that replay cases share: the words of a line, the bytes that a word of hex digits writes, and how
+// many lines give the answers that they expect.
 #![tactic(auto)]
 
 mod counts;

@@ -8,7 +8,7 @@ use anyhow::Context;
 use hex::FromHexError;
 use std::alloc::Global;
 
-/// The first word of a line, and what stands behind its space.
+// The first word of a line, and what stands behind its space.
 pub fn cut(line: &str) -> anyhow::Result<(&str, &str)>
     ensures word { IfOk result (λ r. r.0.now ≡ before_first is_space line.now) }
     ensures rest { IfOk result (λ r. r.1.now ≡ after_first is_space line.now) }
@@ -18,7 +18,7 @@ pub fn cut(line: &str) -> anyhow::Result<(&str, &str)>
     line.split_once(' ').context("a line is too short")
 }
 
-/// The bytes that a word of hex digits writes; `-` writes none.
+// The bytes that a word of hex digits writes; `-` writes none.
 pub fn unhexed(heap: Global, word: &str) -> Result<Vec<u8>, FromHexError>
     ensures dash { word.now ≡ codes "-" → IsOkAnd result (λ bytes. bytes.items ≡ []) }
     ensures digits { word.now ≢ codes "-" → IfOk result (λ bytes. decode_of word.now ≡ Ok bytes.items) }

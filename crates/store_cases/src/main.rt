@@ -1,5 +1,5 @@
-//! Replays data/scripts.txt: calls on both makes of a value store side by side, on slot maps of both kinds of entry, and
-//! on fault lists, each script with the answers expected of it.
+// Replays data/scripts.txt: calls on both makes of a value store side by side, on slot maps of both kinds of entry, and
+// on fault lists, each script with the answers expected of it.
 #![tactic(auto)]
 
 mod answer;
