@@ -1,13 +1,12 @@
 -- Every entry of a run's ledger tells the value of the literal read at its start, and an escaped literal once scanned keeps its entry. Assumes nothing.
-use Rattle.std.proofs.Common.{◌≡◌, ℕ, ◌+◌, ◌<◌, Bool, true, false, cond, not, ◌&&◌, eqb, ◌⊎◌, List, [], ◌∷◌, ◌++◌, length, get_or, is_some as option_is_some, Some, None, Option, sym, refl, ap, ◌∙◌, subst, ap₂, inl, inr, ⊎_elim, append-nil, arith}
+use Rattle.std.proofs.Common.{◌≡◌, ℕ, ◌<◌, Bool, true, false, cond, not, ◌&&◌, eqb, ◌⊎◌, List, [], ◌∷◌, ◌++◌, length, get_or, is_some as option_is_some, Some, None, Option, sym, refl, ap, ◌∙◌, subst, ap₂, inl, inr, ⊎_elim, append-nil, arith}
 use Rattle.std.proofs.lemmas.List.{get_or_append_left, get_or_at, length-append}
-use Rattle.std.proofs.lemmas.Bool.{cases_Bool, cond-true, cond-false, eqb-true, eq-eqb, lt-ltb}
+use Rattle.std.proofs.lemmas.Bool.{cases_Bool, cond-true, cond-false, eqb-true, eq-eqb}
 use Rattle.grammar.specs.Utf8.{utf8}
 use Rattle.grammar.specs.Reading.{Read, Reading}
 use Rattle.grammar.specs.Outcome.{mark_read, units_read}
-use Rattle.slots.specs.Entries.{lookup, has_slot, distinct}
-use Rattle.slots.proofs.Looks.{insert_new}
-use Rattle.slots.proofs.Distincts.{distinct_inserted}
+use Rattle.slots.specs.Entries.{lookup, distinct}
+use Rattle.slots.proofs.Distincts.{distinct_added}
 use Rattle.ledger.specs.Ledger.{Ledger, made, in_strings, has_entry, needs_entry, needs_value, units, next_number, added, value_numbered, number_by, kept_by, kept_at}
 use Rattle.ledger.proofs.Values.{some_none, some_same, true_false, string_cooked}
 
@@ -59,9 +58,7 @@ module _ {V : Type 0} where
   -- no start has two entries, given that what is added had none
   pub still_distinct : (b : Bool) (es : List (ℕ × V)) (s : ℕ) (v : V) → distinct es ≡ true → (b ≡ true → option_is_some (lookup es s) ≡ false) → distinct (es ++ cond b ((s, v) ∷ []) []) ≡ true
   still_distinct false es s v d h = ap distinct (append-nil es) ∙ d
-  still_distinct true es s v d h =
-      let room : has_slot es (length es + 1) ≡ true = lt-ltb _ _ (omega arith) in
-      distinct_inserted es (es ++ ((s, v) ∷ [])) (length es + 1) s v (insert_new es (length es + 1) s v (es ++ ((s, v) ∷ [])) room (h refl) refl) d
+  still_distinct true es s v d h = distinct_added es s v d (h refl)
 
 pub and_true : (a b : Bool) → (a && b) ≡ true → (a ≡ true) × (b ≡ true)
 and_true true b e = (refl, e)

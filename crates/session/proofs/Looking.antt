@@ -1,6 +1,7 @@
 -- From a look to what a scan replies and leaves. Assumes nothing.
 use Rattle.std.proofs.Common.{◌≡◌, ℕ, ◌+◌, ◌-◌, ◌<◌, ◌≤◌, Bool, true, false, not, ◌&&◌, List, [], length, get_or, is_some, Some, Ok, Err, Option, Result, sym, refl, ap, ◌∙◌, subst, inl, inr, arith}
 use Rattle.std.proofs.lemmas.Bool.{cond-true, cond-false, true≢false}
+use Rattle.std.proofs.lemmas.List.{length-take}
 use Rattle.refusals.specs.declared.Refusal.{Refusal}
 use Rattle.refusals.specs.Numbers.{number_of}
 use Rattle.grammar.specs.Utf8.{utf8}
@@ -15,7 +16,6 @@ use Rattle.look.specs.declared.answer.Look.{Look}
 use Rattle.look.specs.Looked as looked
 use Rattle.faults.specs.declared.list.FaultList.{FaultList}
 use Rattle.faults.specs.Records as faulty
-use Rattle.faults.proofs.Rows.{row_length}
 use Rattle.slots.specs.declared.map.SlotMap.{SlotMap}
 use Rattle.slots.specs.Entries.{lookup}
 use Rattle.slots.specs.Views.{entries_of, room_of}
@@ -107,7 +107,7 @@ module _ (w : List ℕ → ℕ) (nothing : w [] ≡ 0) (text : List ℕ) (k : Sc
 
         few : length (faulty.faults_of x.faults) + length (recorded (faults_read r)) ≤ faulty.room_of x.faults
         unfolding r at
-        few = let e = needed in let b = row_length (faulty.records_of x.faults) x.faults.used in omega arith
+        few = let e = needed in let b = length-take x.faults.records.used (faulty.records_of x.faults) in let f = x.faults.records.fits in omega arith
 
         module _ (f : FaultList) (rec : (q : Read) → Reads text s q → length (faulty.faults_of x.faults) + length (recorded (faults_read q)) ≤ faulty.room_of x.faults → Recorded x.faults (recorded (faults_read q)) f) where
           recs : Recorded x.faults (recorded (faults_read r)) f

@@ -2,7 +2,5 @@
 #![tactic(auto)]
 
 mod map;
-mod unique;
 
 pub use map::{Slot, SlotMap};
-pub use unique::UniqueMap;

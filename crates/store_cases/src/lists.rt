@@ -1,12 +1,12 @@
 use super::answer::{Answer, done};
 use super::call_of;
 use faults::{Fault, FaultKind, FaultList};
-use slots::{Slot, UniqueMap};
+use slots::{Slot, SlotMap};
 use std::alloc::Global;
 use std::fmt::Write;
 
 // How many of `many` inserts at starts from 0 on are taken.
-fn fill<V: Copy + Drop>(map: &mut UniqueMap<V>, many: usize, value: V) -> Answer {
+fn fill<V: Copy + Drop>(map: &mut SlotMap<V>, many: usize, value: V) -> Answer {
     let mut taken = 0usize;
     for start in 0..many {
         if map.insert(start, value).is_ok() {
@@ -17,7 +17,7 @@ fn fill<V: Copy + Drop>(map: &mut UniqueMap<V>, many: usize, value: V) -> Answer
 }
 
 // What a map of any kind of entry answers.
-fn act<V: Copy + Drop>(map: &mut UniqueMap<V>, name: &str, a: usize, value: V) -> Answer {
+fn act<V: Copy + Drop>(map: &mut SlotMap<V>, name: &str, a: usize, value: V) -> Answer {
     match name {
         "insert" => done(map.insert(a, value)),
         "fill" => fill(map, a, value),
@@ -29,14 +29,14 @@ fn act<V: Copy + Drop>(map: &mut UniqueMap<V>, name: &str, a: usize, value: V) -
     }
 }
 
-fn find_number(map: &UniqueMap<usize>, start: usize) -> Answer {
+fn find_number(map: &SlotMap<usize>, start: usize) -> Answer {
     match map.find(start) {
         Some(value) => Answer::Number(value),
         None => Answer::Unknown,
     }
 }
 
-fn find_option(map: &UniqueMap<Option<usize>>, start: usize) -> Answer {
+fn find_option(map: &SlotMap<Option<usize>>, start: usize) -> Answer {
     match map.find(start) {
         Some(Some(value)) => Answer::Number(value),
         Some(None) => Answer::Nothing,
@@ -47,8 +47,8 @@ fn find_option(map: &UniqueMap<Option<usize>>, start: usize) -> Answer {
 // A map of numbers and one of optional numbers, in which an odd number stands for none.
 fn write_maps(
     text: &mut String,
-    numbers: &mut UniqueMap<usize>,
-    options: &mut UniqueMap<Option<usize>>,
+    numbers: &mut SlotMap<usize>,
+    options: &mut SlotMap<Option<usize>>,
     calls: &str,
 ) -> anyhow::Result<()> {
     for call in calls.split(',') {
@@ -73,8 +73,8 @@ pub fn replay_maps(
 ) -> anyhow::Result<()> {
     let mut numbers = vec![in heap; Slot::new(0usize); room]?;
     let mut options = vec![in heap; Slot::new(Some(0usize)); room]?;
-    let mut left = UniqueMap::new(numbers.as_mut_slice());
-    let mut right = UniqueMap::new(options.as_mut_slice());
+    let mut left = SlotMap::new(numbers.as_mut_slice());
+    let mut right = SlotMap::new(options.as_mut_slice());
     write_maps(text, &mut left, &mut right, calls)
 }
 
