@@ -1,24 +1,17 @@
 -- What the invariants of texts and cursors give. Assumes nothing.
-use Rattle.std.proofs.Common.{◌≡◌, ℕ, ◌+◌, ◌≤◌, true, List, [], ◌++◌, length, drop, Some, IsUtf8, sym, ap, ◌∙◌, subst, arith, length-drop}
+use Rattle.std.proofs.Common.{◌≡◌, ℕ, ◌+◌, true, List, ◌++◌, drop, Some, IsUtf8, sym, ap, ◌∙◌, subst}
 use lib.Utf8.{encode, encodes, scalar, scalars}
 use Rattle.std.specs.Char.{len_utf8}
 use Rattle.std.specs.Str.{IsCharBoundary, chars}
-use Rattle.std.proofs.lemmas.Str.{IsUtf8-nil, IsUtf8-drop, scalars-chars, encodes-chars, IsCharBoundary-past_char, drop_past_char, cons_from_encodes}
+use Rattle.std.proofs.lemmas.Str.{IsUtf8-drop, scalars-chars, encodes-chars, IsCharBoundary-past_char, drop_past_char, cons_from_encodes}
 use Rattle.std.proofs.lemmas.Bool.{and_parts}
-use Rattle.source.specs.Texts.{WellFormed, IsText, CharAt, limit}
+use Rattle.source.specs.Texts.{WellFormed, CharAt}
 
 pub well_from : (bs : List ℕ) → IsUtf8 bs → WellFormed bs
 well_from bs u = (scalars-chars bs u, encodes-chars bs u)
 
 pub utf8_from : (bs : List ℕ) → WellFormed bs → IsUtf8 bs
 utf8_from bs w = (chars bs, (w.0, w.1))
-
--- a new text's invariants, from the bytes that it is made of
-pub made : (bs us : List ℕ) → us ≡ bs → IsText bs → WellFormed us × ((length us ≤ limit) × Unit {0})
-made bs us e t = subst (λ (ys : List ℕ). WellFormed ys × ((length ys ≤ limit) × Unit {0})) (sym e) (well_from bs t.0, (t.1, tt))
-
-pub empty_text : IsText []
-empty_text = (IsUtf8-nil, omega arith)
 
 first_scalar : (cs rest : List ℕ) (c : ℕ) → scalars cs ≡ true → encodes cs ≡ encode c ++ rest → scalar c ≡ true
 first_scalar cs rest c s e =
@@ -31,10 +24,6 @@ char_at bs rest i c n w b k e =
     let u = IsUtf8-drop bs i (utf8_from bs w) b in
     let f : drop (i + n) bs ≡ rest = subst (λ (m : ℕ). drop (i + m) bs ≡ rest) (sym k) (drop_past_char bs rest i c e) in
     (first_scalar u.0 rest c u.1.0 (u.1.1 ∙ e), e ∙ ap (λ (r : List ℕ). encode c ++ r) (sym f), ap (λ (m : ℕ). i + m) k)
-
--- no character is left only at the end
-pub at_end : (bs : List ℕ) (i : ℕ) → IsCharBoundary bs i → length (drop i bs) ≡ 0 → i ≡ length bs
-at_end bs i b e = omega (arith, length-drop i bs, b.0)
 
 -- the place behind a character is a boundary
 pub behind_char : (bs : List ℕ) (i c n : ℕ) → WellFormed bs → IsCharBoundary bs i → CharAt bs i (Some (c, n)) → IsCharBoundary bs n

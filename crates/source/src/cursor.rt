@@ -23,7 +23,7 @@ impl<'t> Cursor<'t> {
         ensures { (result.bytes.now ≡ text.entry.bytes.now) × (result.place.at ≡ 0) }
     {
         Cursor {
-            bytes: text.bytes(),
+            bytes: text.bytes,
             place: Place { at: 0 },
         }
     }
@@ -51,33 +51,27 @@ impl<'t> Cursor<'t> {
     pub fn peek(&self) -> Option<u8>
         ensures { MatchOption result (self.now.place.at ≡ length self.now.bytes.now) (λ b. (self.now.place.at < length self.now.bytes.now) × (b ≡ slice_index self.now.bytes.now self.now.place.at)) }
     {
-        if self.place.at < self.bytes.len() {
-            Some(self.bytes[self.place.at])
-        } else {
-            None
-        }
+        self.rest().first().copied()
     }
 
     // The bytes from the place on.
     pub fn rest(&self) -> &'t [u8]
         ensures { result.now ≡ drop self.now.place.at self.now.bytes.now }
     {
-        let (_, rest) = self.bytes.split_at(self.place.at);
-        rest
+        &self.bytes[self.place.at..]
     }
 
     // The character at the place and the place behind it, or none at the end.
     pub fn peek_char(&self) -> Option<(char, usize)>
         ensures { CharAt self.now.bytes.now self.now.place.at result }
     {
-        let rest = unsafe { std::str::from_utf8_unchecked(self.rest()) };
-        match rest.chars().next() {
-            None => None,
-            Some(c) => Some((c, self.place.at + c.len_utf8())),
-        }
+        let rest = &self.text().as_str()[self.place.at..];
+        let c = rest.chars().next()?;
+        Some((c, self.place.at + c.len_utf8()))
     }
 
-    // Takes the character at the place: its number and the place behind it, where the cursor then stands.
+    // Takes the character at the place: its number and the place behind it, where the cursor then stands. No `Iterator`, since
+    // a cursor is copied, and a `for` would go on in a copy.
     pub fn next(&mut self) -> Option<(u32, usize)>
         ensures text { self.new.bytes.now ≡ self.old.bytes.now }
         ensures char { CharAt self.old.bytes.now self.old.place.at result }
@@ -94,13 +88,8 @@ impl<'t> Cursor<'t> {
         ensures moves { IsCharBoundary self.old.bytes.now at → self.new.place.at ≡ at }
         ensures stays { (IsCharBoundary self.old.bytes.now at → ⊥) → self.new.place.at ≡ self.old.place.at }
     {
-        if at == self.bytes.len() {
+        if self.text().as_str().is_char_boundary(at) {
             self.place = Place { at };
-        } else if at < self.bytes.len() {
-            let b = self.bytes[at];
-            if b < 0x80 || 0xC0 <= b {
-                self.place = Place { at };
-            }
         }
     }
 

@@ -15,17 +15,29 @@ pub struct Text<'a> {
     ghost short: { length bytes.now ≤ limit },
 }
 
+// The text of these bytes, or why they are none.
+impl<'a> TryFrom<&'a [u8]> for Text<'a> {
+    type Error = Refusal;
+
+    ghost try_from_gives = { λ bytes result. MatchResult result (λ text. IsText bytes.now × (text.bytes.now ≡ bytes.now)) (λ e. NoText bytes.now e) };
+
+    fn try_from(bytes: &'a [u8]) -> Result<Text<'a>, Refusal> {
+        if bytes.len() > LIMIT {
+            return Err(Refusal::TooLong);
+        }
+        match std::str::from_utf8(bytes) {
+            Ok(_) => Ok(Text { bytes }),
+            Err(e) => Err(Refusal::NotUtf8(e.valid_up_to())),
+        }
+    }
+}
+
 // Whether these bytes are a text, and if not, why.
 pub fn check(bytes: &[u8]) -> Result<(), Refusal>
     ensures { MatchResult result (λ _. IsText bytes.now) (λ e. NoText bytes.now e) }
 {
-    if bytes.len() > LIMIT {
-        return Err(Refusal::TooLong);
-    }
-    match std::str::from_utf8(bytes) {
-        Ok(_) => Ok(()),
-        Err(e) => Err(Refusal::NotUtf8(e.valid_up_to())),
-    }
+    Text::try_from(bytes)?;
+    Ok(())
 }
 
 impl<'a> Text<'a> {
@@ -34,10 +46,7 @@ impl<'a> Text<'a> {
         ensures text { IsText bytes.now → result.bytes.now ≡ bytes.now }
         ensures empty { (IsText bytes.now → ⊥) → result.bytes.now ≡ [] }
     {
-        match check(bytes) {
-            Ok(()) => Text { bytes },
-            Err(_) => Text { bytes: b"" },
-        }
+        Text::try_from(bytes).unwrap_or(Text { bytes: b"" })
     }
 
     pub fn bytes(self) -> &'a [u8]

@@ -16,7 +16,8 @@ pub fn search<S: StopSet>(set: &S, bytes: &[u8], from: usize) -> Option<(usize, 
     first_stop(set, bytes, from)
 }
 
-// The first stop, batch by batch.
+// The first stop, batch by batch. Two loops and a label, so that the inner one always goes over as
+// many bytes and is unrolled.
 fn first_stop<S: StopSet>(set: &S, bytes: &[u8], from: usize) -> Option<(usize, u8)>
     ensures { FirstStop (S.StopSet.stops set.now) bytes.now from result }
 {
@@ -26,27 +27,25 @@ fn first_stop<S: StopSet>(set: &S, bytes: &[u8], from: usize) -> Option<(usize, 
     let mut at = from;
     'batches: loop {
         if bytes.len() - at < BATCH {
-            break 'batches first_in_rest(set, bytes, from, at);
+            break 'batches first_in_rest(set, bytes, at);
         }
-        for i in 0..BATCH {
-            let byte = bytes[at + i];
-            if set.has(byte) {
-                break 'batches Some((at + i, byte));
+        for (i, byte) in bytes[at..at + BATCH].iter().enumerate() {
+            if set.has(*byte) {
+                break 'batches Some((at + i, *byte));
             }
         }
         at += BATCH;
     }
 }
 
-// The first stop from `at` on, byte by byte, where nothing stops before it.
-fn first_in_rest<S: StopSet>(set: &S, bytes: &[u8], from: usize, at: usize) -> Option<(usize, u8)>
-    requires { (from ≤ at) × (Free (S.StopSet.stops set.now) bytes.now from at) }
-    ensures { FirstStop (S.StopSet.stops set.now) bytes.now from result }
+// The first stop at or behind a place, byte by byte.
+fn first_in_rest<S: StopSet>(set: &S, bytes: &[u8], at: usize) -> Option<(usize, u8)>
+    requires { at ≤ length bytes.now }
+    ensures { FirstStop (S.StopSet.stops set.now) bytes.now at result }
 {
-    for place in at..bytes.len() {
-        let byte = bytes[place];
-        if set.has(byte) {
-            return Some((place, byte));
+    for (i, byte) in bytes[at..].iter().enumerate() {
+        if set.has(*byte) {
+            return Some((at + i, *byte));
         }
     }
     None

@@ -24,6 +24,9 @@ pub trait StopSet {
     ghost safe: { (s : Self) → Safe (stops s) };
 }
 
+// A type for each set, so that the search is compiled for its table. One generic type would be no
+// plainer: a table, a rule and the test of the law are all that an impl says, and all three differ.
+
 // `"`, `\`, CR and LF.
 #[derive(Clone, Copy)]
 pub struct DoubleQuote;

@@ -1,6 +1,6 @@
 // A stop set that a caller sets at run time. No scan uses one.
 ghost use Rattle.std.specs.Prelude.{◌≡◌, ◌<◌, ◌≤◌, true, false, length, MatchResult, slice_index_or};
-ghost use Rattle.refusals.specs.Numbers.{number_of};
+ghost use Rattle.refusals.specs.declared.Refusal.TheVariants.{UnlawfulPattern};
 ghost use Rattle.stops.specs.Stops.{every, lawful, tabled, wanted};
 ghost use Rattle.stops.specs.Entries.{safe_at};
 
@@ -26,7 +26,7 @@ impl Table {
 
     // Takes a lawful pattern over; an unlawful one is refused, and the old table kept.
     pub fn set(&mut self, pattern: &[bool; 256]) -> Result<(), Refusal>
-        ensures { MatchResult result (λ _. (lawful pattern.now ≡ true) × (self.new.stops ≡ pattern.now)) (λ e. (number_of e ≡ 6) × (lawful pattern.now ≡ false) × (self.new.stops ≡ self.old.stops)) }
+        ensures { MatchResult result (λ _. (lawful pattern.now ≡ true) × (self.new.stops ≡ pattern.now)) (λ e. (e ≡ UnlawfulPattern) × (lawful pattern.now ≡ false) × (self.new.stops ≡ self.old.stops)) }
     {
         if all_are(pattern, 0xC0, 0xF7, true) || all_are(pattern, 0x80, 0xBF, false) {
             self.stops = *pattern;
@@ -39,15 +39,10 @@ impl Table {
 
 // Whether every entry from one place to another is the wanted one.
 fn all_are(pattern: &[bool; 256], from: usize, to: usize, want: bool) -> bool
-    requires { to < 256 }
+    requires { (from ≤ to) × (to < 256) }
     ensures { result ≡ every (wanted from to want) 0 pattern.now }
 {
-    for b in from..to + 1 {
-        if pattern[b] != want {
-            return false;
-        }
-    }
-    true
+    pattern[from..to + 1].iter().all(|stops| *stops == want)
 }
 
 impl StopSet for Table {

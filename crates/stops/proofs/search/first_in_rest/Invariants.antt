@@ -1,5 +1,6 @@
+use Rattle.std.proofs.Common.{◌+◌}
 use Rattle.stops.specs.First.{Free}
 use Rattle.stops.proofs.search.first_in_rest.Given as goal
 
-abbrev pub invariant-loop-place : goal.invariant-loop-place
-invariant-loop-place g l = Free (g.S.StopSet.stops l.set) l.bytes l.from l.place
+abbrev pub invariant-loop-i : goal.invariant-loop-i
+invariant-loop-i g l = Free (g.S.StopSet.stops l.set) l.bytes l.at (l.at + l.i)

@@ -3,8 +3,8 @@ use Rattle.source.proofs.Known.{utf8_from}
 use Rattle.source.proofs.Two.{past_two}
 use Rattle.source.proofs.cursor.Cursor.take_crlf.Goals as goal
 
-pub invariant_of-self : goal.invariant_of-self
-invariant_of-self c =
+pub invariant_of-self-clause-boundary : goal.invariant_of-self-clause-boundary
+invariant_of-self-clause-boundary c =
     let s = c.args.self.now in
     let e = c.in-Some.ensures in
-    record { well = s.well; short = s.short; boundary = past_two s.bytes.now s.place.at c.in-Some.behind 13 10 (utf8_from s.bytes.now s.well) (omega arith) e.0 e.1 }
+    past_two s.bytes.now s.place.at c.in-Some.behind 13 10 (utf8_from s.bytes.now s.well) (omega arith) e.0 e.1

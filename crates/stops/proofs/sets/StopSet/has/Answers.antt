@@ -1,5 +1,5 @@
 use Rattle.std.proofs.Common.{rules}
-use Rattle.stops.specs.Entries.{rule_at}
+use Rattle.stops.proofs.Entries.{rule_at}
 use Rattle.stops.proofs.sets.StopSet.has.Goals as goal
 
 -- the rule of the whole table, at one byte

@@ -1,4 +1,4 @@
-use Rattle.stops.specs.Entries.{own_rule}
+use Rattle.stops.proofs.Entries.{own_rule}
 use Rattle.stops.proofs.table.TableStopSet.table.Goals as goal
 
 pub returns : goal.returns
