@@ -23,7 +23,7 @@ fn hex_value(b: u8) -> Option<u8>
 }
 
 // The hex digits from a cursor on, by their values.
-#[derive(Clone, Copy)]
+#[derive(Drop)]
 pub(crate) struct HexDigits<'t> {
     cursor: Cursor<'t>,
 }
