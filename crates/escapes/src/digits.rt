@@ -1,5 +1,5 @@
 // Digits: one reader of hex digits, and what stands on it.
-ghost use Rattle.std.specs.Prelude.{◌≡◌, ◌-◌, ◌<◌, ◌≤◌, T, length, MatchOption};
+ghost use Rattle.std.specs.Prelude.{◌≡◌, ◌-◌, ◌<◌, ◌≤◌, T, length, MatchOption, IfSome};
 ghost use Rattle.std.specs.Iterator.{at_most};
 ghost use Rattle.grammar.specs.Rule.{member, hex_digit, digit};
 ghost use Rattle.grammar.specs.Production.{octal_digits};
@@ -12,7 +12,7 @@ use source::cursor::Cursor;
 // The value of a hex digit: a `u8`, where `char::to_digit` gives a `u32` that each reader of units would have to narrow.
 fn hex_value(b: u8) -> Option<u8>
     ensures cases { MatchOption result (T (member b hex_digit) → ⊥) (λ v. T (member b hex_digit) × (v ≡ digit b)) }
-    ensures small { MatchOption result (b ≡ b) (λ v. v < 16) }
+    ensures small { IfSome result (λ v. v < 16) }
 {
     match b {
         b'0'..=b'9' => Some(b - b'0'),
@@ -23,7 +23,7 @@ fn hex_value(b: u8) -> Option<u8>
 }
 
 // The hex digits from a cursor on, by their values.
-#[derive(Clone, Copy)]
+#[derive(Drop)]
 pub(crate) struct HexDigits<'t> {
     cursor: Cursor<'t>,
 }
@@ -54,7 +54,7 @@ impl Iterator for HexDigits<'_> {
 // The value of the octal digit at a cursor.
 pub(crate) fn octal_at(cursor: Cursor<'_>) -> Option<u8>
     ensures digit_at { DigitAt octal_digits cursor.entry.bytes.now cursor.entry.place.at result }
-    ensures small { MatchOption result (result ≡ result) (λ v. v < 8) }
+    ensures small { IfSome result (λ v. v < 8) }
 {
     match ascii_at(cursor)? {
         b @ b'0'..=b'7' => Some(b - b'0'),
