@@ -13,7 +13,6 @@ use store::ValueStore;
 use tokens::Token;
 
 mod entry;
-mod finding;
 mod life;
 mod perform;
 mod questions;

@@ -10,6 +10,7 @@ use store::ValueStore;
 
 impl<'a> Session<'a> {
     // Performs one call.
+    #[tactic(auto, using(crate::proofs::Performing::performed, crate::proofs::Performing::question))]
     pub fn perform<S: ValueStore>(
         &mut self,
         store: &mut S,
