@@ -3,13 +3,15 @@ use Rattle.std.proofs.Common.{◌≡◌, ℕ, ◌+◌, ◌<◌, ◌≤◌, Bool,
 use Rattle.grammar.specs.Utf8.{utf8}
 use Rattle.grammar.specs.Value.{joined}
 use Rattle.grammar.specs.Outcome.{Fault, fault, invalid_escape}
+use Rattle.std.specs.Str.{IsCharBoundary}
 use Rattle.grammar.specs.Literal.{Body}
-use Rattle.escapes.specs.Places.{At}
-use Rattle.escapes.specs.Escapes.{Part}
+use Rattle.escapes.specs.Escapes.{Part, is_template}
 use Rattle.escapes.proofs.Parts.{part_join, no_step}
 use Rattle.pieces.specs.Plain.{Plain, spelt, utf16s}
-use Rattle.pieces.specs.Pieces.{body_of, ending_of, Ends}
+use Rattle.pieces.specs.Pieces.{body_of, ending_of, Ends, StopRead, PieceRead}
 use Rattle.pieces.specs.declared.piece.Opening.{Opening}
+use Rattle.pieces.specs.declared.piece.Piece.{Piece}
+use Rattle.source.specs.declared.cursor.Cursor.{Cursor}
 use Rattle.look.specs.Goes.{PassedRead, faults_at}
 use Rattle.look.specs.Runs.{Upto, Ran}
 use Rattle.look.specs.declared.go.Passed.{Passed}
@@ -74,19 +76,37 @@ one_more w = go w.faulty
     go true = omega arith
     go false = omega arith
 
+-- A PIECE THAT IS PASSED
+
+-- what next_piece told of a cursor, of its literal's bytes
+pub in_literal : (l : Literal) (k : Cursor) (y : Piece) → k.bytes.now ≡ l.inside.bytes.now → PieceRead (body_of l.opening) k.bytes.now k.place.at y.to y.stop → PieceRead (body_of l.opening) l.inside.bytes.now k.place.at y.to y.stop
+in_literal l k y e x = subst (λ z. PieceRead (body_of l.opening) z k.place.at y.to y.stop) e x
+
+-- a cursor k, moved behind the stop of its piece, stands at `at`
+pub record On (l : Literal) (k : Cursor) (y : Piece) (w : Passed) (at : ℕ) : Type 0 where
+  pub plain : Plain (body_of l.opening) l.inside.bytes.now k.place.at y.to
+  pub passed : PassedRead (body_of l.opening) l.inside.bytes.now y.to w
+  pub place : at ≡ w.next
+  pub moves : k.place.at < at
+  pub within : at ≤ length l.inside.bytes.now
+
+pub on :
+    (l : Literal) (k : Cursor) (y : Piece) (w : Passed) (m : Bool) (at : ℕ) → k.bytes.now ≡ l.inside.bytes.now → PieceRead (body_of l.opening) k.bytes.now k.place.at y.to y.stop → m ≡ is_template (body_of l.opening)
+    → ((b : Body) (bs : List ℕ) (p : ℕ) → is_template b ≡ m → StopRead b bs p y.stop → PassedRead b bs p w) → (IsCharBoundary k.bytes.now w.next → at ≡ w.next) → On l k y w at
+on l k y w m at e x f g h =
+    let z = in_literal l k y e x in
+    let v = g (body_of l.opening) l.inside.bytes.now y.to (sym f) z.stop in
+    let i = h (subst (λ c. IsCharBoundary c w.next) (sym e) v.on.behind.boundary) in
+    record { plain = z.plain; passed = v; place = i; moves = omega (arith, z.plain.order, v.on.moves); within = omega (arith, v.on.behind.boundary.0) }
+
 -- THE LOOP
 
--- how far a piece goes
-pub piece_moves : (b : Body) (bs : List ℕ) (p q : ℕ) (w : Passed) → Plain b bs p q → PassedRead b bs q w → (p < w.next) × At bs w.next × (q < w.next) × (p ≤ q)
-piece_moves b bs p q w y h = (omega (arith, y.order, h.on.moves), h.on.behind, h.on.moves, y.order)
-
 pub reached_on :
-    (l : Literal) (p q p' : ℕ) (t r : Tally) (w : Passed) → p' ≡ w.next → Plain (body_of l.opening) l.inside.bytes.now p q → PassedRead (body_of l.opening) l.inside.bytes.now q w
-    → Counted t w r → t.faults ≤ p → Upto l.inside.bytes.now l.start l.opening p t → (r.faults ≤ p') × Upto l.inside.bytes.now l.start l.opening p' r
-reached_on l p q p' t r w e y h k n x =
+    (l : Literal) (k : Cursor) (y : Piece) (w : Passed) (at : ℕ) (t r : Tally) → On l k y w at → Counted t w r → t.faults ≤ k.place.at → Upto l.inside.bytes.now l.start l.opening k.place.at t
+    → (r.faults ≤ at) × Upto l.inside.bytes.now l.start l.opening at r
+reached_on l k y w at t r d c n x =
     let bs = l.inside.bytes.now in
-    let (a, _, _, _) = piece_moves (body_of l.opening) bs p q w y h in
-    (omega (arith, k.0, one_more w), subst (λ z. Upto bs l.start l.opening z r) (sym e) (upto_on bs l.start l.opening p q t r w x y h k))
+    (omega (arith, c.0, one_more w, d.moves), subst (λ z. Upto bs l.start l.opening z r) (sym d.place) (upto_on bs l.start l.opening k.place.at y.to t r w x d.plain d.passed c))
 
 pub ran :
     (l : Literal) (p q : ℕ) (r : Run) → Plain (body_of l.opening) l.inside.bytes.now p q → Ends (body_of l.opening) l.inside.bytes.now q (ending_of r.ending) r.end → r.tally.faults ≤ p

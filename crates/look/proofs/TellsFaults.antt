@@ -15,6 +15,7 @@ use Rattle.pieces.specs.Plain.{Plain, spelt, utf16s}
 use Rattle.pieces.specs.Pieces.{scan_of, body_of, ending_of, Ends}
 use Rattle.pieces.specs.declared.piece.Opening.{Opening}
 use Rattle.pieces.specs.declared.piece.Ending.{Ending}
+use Rattle.pieces.specs.declared.piece.Piece.{Piece}
 use Rattle.look.specs.Goes.{PassedRead, faults_at}
 use Rattle.look.specs.Told.{due, FaultsUpto, AllTold, ToldAt, Told, ToldAll, Tells, left_at, left}
 use Rattle.look.specs.Units.{Opened}
@@ -23,7 +24,7 @@ use Rattle.look.specs.declared.faulty.FaultReader.{FaultReader}
 use Rattle.look.specs.declared.go.Passed.{Passed}
 use Rattle.look.specs.declared.literal.Literal.{Literal}
 use Rattle.look.proofs.Opens.{opened_in}
-use Rattle.look.proofs.Running.{piece_moves}
+use Rattle.look.proofs.Running.{On}
 
 recorded_append : (fs gs : List outcome.Fault) → recorded (fs ++ gs) ≡ recorded fs ++ recorded gs
 recorded_append [] gs = refl
@@ -93,23 +94,18 @@ listed f false g e = ap option_to_list e
 
 -- a stop that is passed
 pub passed_told :
-    (r : FaultReader) (q at : ℕ) (w : Passed) (g : Option Fault) (fs : List Fault) → r.due ≡ None → at ≡ w.next → Plain (body_of r.literal.opening) r.literal.inside.bytes.now r.cursor.place.at q
-    → PassedRead (body_of r.literal.opening) r.literal.inside.bytes.now q w → g ≡ then_some w.faulty (record { kind = InvalidEscape; from = q; to = w.next }) → Told r fs
+    (r : FaultReader) (y : Piece) (w : Passed) (at : ℕ) (g : Option Fault) (fs : List Fault) → On r.literal r.cursor y w at → r.due ≡ None → g ≡ then_some w.faulty (record { kind = InvalidEscape; from = y.to; to = w.next }) → Told r fs
     → ToldAt r.literal.inside.bytes.now r.literal.start r.literal.opening at r.due (fs ++ option_to_list g)
-passed_told r q at w g fs e a y h i x =
+passed_told r y w at g fs d e i x =
     let bs = r.literal.inside.bytes.now in
     let o = r.literal.opening in
-    let z = upto_on bs r.literal.start o r.cursor.place.at q w fs (inside r fs e x) y h in
-    let z₁ = subst (λ k. FaultsUpto bs r.literal.start o k (fs ++ told_at q w)) (sym a) z in
-    let z₂ = subst (λ k. FaultsUpto bs r.literal.start o at (fs ++ k)) (sym (listed (record { kind = InvalidEscape; from = q; to = w.next }) w.faulty g i)) z₁ in
+    let z = upto_on bs r.literal.start o r.cursor.place.at y.to w fs (inside r fs e x) d.plain d.passed in
+    let z₁ = subst (λ k. FaultsUpto bs r.literal.start o k (fs ++ told_at y.to w)) (sym d.place) z in
+    let z₂ = subst (λ k. FaultsUpto bs r.literal.start o at (fs ++ k)) (sym (listed (record { kind = InvalidEscape; from = y.to; to = w.next }) w.faulty g i)) z₁ in
     subst (λ k. ToldAt bs r.literal.start o at k (fs ++ option_to_list g)) (sym e) z₂
 
-pub passed_left :
-    (r : FaultReader) (q at : ℕ) (w : Passed) → r.due ≡ None → at ≡ w.next → Plain (body_of r.literal.opening) r.literal.inside.bytes.now r.cursor.place.at q
-    → PassedRead (body_of r.literal.opening) r.literal.inside.bytes.now q w → left_at r.literal.inside.bytes.now at r.due < left r
-passed_left r q at w e a y h =
-    let (l, b, _, _) = piece_moves (body_of r.literal.opening) r.literal.inside.bytes.now r.cursor.place.at q w y h in
-    omega (arith, left_inside r at e, left_inside r r.cursor.place.at e, b.boundary.0)
+pub passed_left : (r : FaultReader) (y : Piece) (w : Passed) (at : ℕ) → On r.literal r.cursor y w at → r.due ≡ None → left_at r.literal.inside.bytes.now at r.due < left r
+passed_left r y w at d e = omega (arith, left_inside r at e, left_inside r r.cursor.place.at e, d.moves, d.within)
 
 -- the end
 pub end_told :

@@ -10,7 +10,7 @@ pub enum Scan {
 }
 
 // The token, the number of faults, and the number of units that would be stored, or none where no value is cooked.
-#[derive(Clone, Copy)]
+#[derive(Clone, Copy, PartialEq, Eq, Debug)]
 pub struct Look {
     pub token: Token,
     pub faults: usize,

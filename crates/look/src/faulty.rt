@@ -5,7 +5,7 @@ use crate::literal::Literal;
 use source::cursor::Cursor;
 
 // Faults that are still to be told behind a literal's end: each from its start to that end.
-#[derive(Clone, Copy)]
+#[derive(Clone, Copy, PartialEq, Eq, Debug)]
 pub struct Due {
     pub end: usize,
     pub count: u8,

@@ -10,7 +10,7 @@ use pieces::piece::{Ending, Stop};
 use std::ops::ControlFlow;
 
 // A stop that the literal passes: whether it is a fault, whether a value is still cooked, whether it marks the literal, and the place behind it.
-#[derive(Clone, Copy)]
+#[derive(Clone, Copy, PartialEq, Eq, Debug)]
 pub struct Passed {
     pub faulty: bool,
     pub cooked: bool,

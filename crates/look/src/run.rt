@@ -8,7 +8,7 @@ use pieces::piece::{Ending, next_piece};
 use std::ops::ControlFlow;
 
 // Counts of a part of a literal: its faults, whether a value is cooked, and whether it is marked.
-#[derive(Clone, Copy)]
+#[derive(Clone, Copy, PartialEq, Eq, Debug)]
 pub struct Tally {
     pub faults: usize,
     pub cooked: bool,
@@ -16,7 +16,7 @@ pub struct Tally {
 }
 
 // How a literal ends, where, and what was counted.
-#[derive(Clone, Copy)]
+#[derive(Clone, Copy, PartialEq, Eq, Debug)]
 pub struct Run {
     pub ending: Ending,
     pub end: usize,
