@@ -1,11 +1,8 @@
 use Rattle.std.proofs.Common.{◌≡◌, [], length, is_ok, vec_items, ap, arith}
 use Rattle.ledger.specs.Calls.{counted}
 use Rattle.faults.specs.Records.{faults_of}
-use Rattle.reports.proofs.Asking.{fault_is_told, gathered_none, gathered_more, headed}
+use Rattle.reports.proofs.Asking.{fault_is_told, gathered_more, headed}
 use Rattle.reports.proofs.ask.ask_faults.Goals as goal
-
-pub loop-index-init : goal.loop-index-init
-loop-index-init g c = gathered_none _ _ _ _ _ c.new-faults.ensures.items
 
 pub unwrap-fault-requires : goal.unwrap-fault-requires
 unwrap-fault-requires g c =

@@ -1,9 +1,6 @@
-use Rattle.std.proofs.Common.{[], is_ok, ap, arith}
-use Rattle.reports.proofs.Asking.{unit_is_told, gathered_none, gathered_more}
+use Rattle.std.proofs.Common.{[], is_ok, ap}
+use Rattle.reports.proofs.Asking.{unit_is_told, gathered_more}
 use Rattle.reports.proofs.ask.ask_units.Goals as goal
-
-pub loop-index-init : goal.loop-index-init
-loop-index-init g c = gathered_none _ _ _ _ _ c.new-units.ensures.items
 
 pub unwrap-unit-requires : goal.unwrap-unit-requires
 unwrap-unit-requires g c = unit_is_told _ c.args.many c.loop-index.index _ c.requires c.loop-index-test.true (c.unit.ensures.called []).step.0
@@ -11,6 +8,3 @@ unwrap-unit-requires g c = unit_is_told _ c.args.many c.loop-index.index _ c.req
 pub loop-index-preserved : goal.loop-index-preserved
 loop-index-preserved g c =
     gathered_more _ _ _ _ _ _ _ _ _ c.loop-index.invariant c.push.ensures.items (ap is_ok c.in_ok-push.was) (rw c.unwrap-unit.ensures at c.unit.ensures).lives
-
-pub returns : goal.returns
-returns g c = (omega (arith, c.loop-index.invariant.count, c.loop-index-test.false, c.loop-index.auto.index-end), c.loop-index.invariant.lives)

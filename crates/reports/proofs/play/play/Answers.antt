@@ -1,10 +1,7 @@
 use Rattle.std.proofs.Common.{is_ok, refl, ap}
 use Rattle.session.specs.Scans.{bytes_of}
-use Rattle.reports.proofs.Carrying.{lined_none, lined_more, lined_all}
+use Rattle.reports.proofs.Carrying.{lined_more, lined_all}
 use Rattle.reports.proofs.play.play.Goals as goal
-
-pub loop-command-init : goal.loop-command-init
-loop-command-init g c = lined_none _ (bytes_of c.args.text) c.args.session.now _ c.args.commands.now _ c.new-lines.ensures.items
 
 pub loop-command-preserved : goal.loop-command-preserved
 loop-command-preserved g c =
