@@ -22,11 +22,11 @@ fn given_by(stop: Stop) -> Option<Given>
             next: invalid.next,
         }),
         Stop::Return(next) => Some(Given {
-            units: Units::One(10),
+            units: Units::One(u16::from(b'\n')),
             next,
         }),
         Stop::Dollar(next) => Some(Given {
-            units: Units::One(36),
+            units: Units::One(u16::from(b'$')),
             next,
         }),
         Stop::End(_, _) => None,

@@ -3,7 +3,7 @@
 
 pub mod answer;
 pub mod faulty;
-pub mod giving;
+mod giving;
 pub mod go;
 pub mod literal;
 pub mod look;

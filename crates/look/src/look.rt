@@ -55,7 +55,7 @@ impl Literal<'_> {
         let kind = kind_of(self.opening, run.ending);
         let escaped = is_terminated(kind) & run.tally.marked;
         let units = self.units_to_store(run.tally.cooked, escaped);
-        let faults = run.tally.faults + end_faults(run.ending) as usize;
+        let faults = run.tally.faults + usize::from(end_faults(run.ending));
         let token = Token {
             start: self.start,
             end: run.end,

@@ -29,7 +29,7 @@ fn counted(tally: Tally, passed: Passed) -> Tally
     ensures { (result.faults ≡ tally.faults + (if passed.faulty then 1 else 0)) × (result.cooked ≡ tally.cooked && passed.cooked) × (result.marked ≡ tally.marked || passed.marked) }
 {
     Tally {
-        faults: tally.faults + passed.faulty as usize,
+        faults: tally.faults + usize::from(passed.faulty),
         cooked: tally.cooked & passed.cooked,
         marked: tally.marked | passed.marked,
     }
