@@ -55,7 +55,8 @@ fn replay_text<R: Print, F: FnMut(&str) -> anyhow::Result<bool>>(
     Ok(tally)
 }
 
-// Asks about each line of a file whether it agrees, and prints those that do not.
+// Asks about each line of a file whether it agrees, and prints those that do not. That the text is the file's is shown by
+// a test: no contract can say what a file holds.
 pub fn replay<R: Files + AllocGlobal + Print, F: FnMut(&str) -> anyhow::Result<bool>>(
     rt: &R,
     path: &str,

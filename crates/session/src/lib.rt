@@ -73,8 +73,6 @@ impl<'a> Session<'a> {
 
 // Every call goes on with every life.
 #[tactic(auto, using(crate::proofs::Goes::goes_on))]
-pub fn calls_go_on() -> u8
+pub fn calls_go_on()
     ensures { GoesOn }
-{
-    0
-}
+{}
