@@ -59,6 +59,7 @@ pub(crate) enum Lead {
     Other,
 }
 
+// What a character begins: a match with literal cases and guards, the project's form for this choice.
 fn lead_of(c: char, digit_behind: bool, in_template: bool) -> Lead
     ensures { Leads c digit_behind in_template result }
 {
@@ -188,7 +189,7 @@ fn braces_escape(cursor: Cursor<'_>, in_template: bool) -> Result<Given, Invalid
     }
 }
 
-// Takes `\u` and four hex digits of a low half, or nothing.
+// Takes `\u` and four hex digits of a low half, or nothing: a trial puts the place back on every way out, the project's form for it.
 fn low_half(cursor: Cursor<'_>, place: &mut Place) -> Option<u16>
     requires { At cursor.bytes.now place.old.at }
     ensures { MatchOption result (place.new.at ≡ place.old.at) (λ l. Low cursor.entry.bytes.now place.old.at l place.new.at) }

@@ -16,6 +16,7 @@ pub enum FaultKind {
 }
 
 impl FaultKind {
+    // The number that callers are told: faults have numbers by a rule of the project.
     pub fn number(self) -> u8
         ensures { result ≡ kind_of self }
     {

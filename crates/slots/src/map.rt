@@ -59,7 +59,7 @@ impl<'a, V: Copy> SlotMap<'a, V> {
         self.slots.len()
     }
 
-    // The value held for a start.
+    // The value held for a start, by a walk over the slots: they are lent, and a map of the library would need memory of its own.
     pub fn find(&self, start: usize) -> Option<V>
         ensures { result ≡ lookup (entries_of self.now) start }
     {

@@ -58,7 +58,7 @@ impl<'t, 'p> Trial<'t, 'p> {
         *self.place = Place { at };
     }
 
-    // Takes a backslash and a `u`, both or none.
+    // Takes a backslash and a `u`, both or none. No twin of `Cursor::take_crlf`: a cursor stands between characters, a trial's place anywhere.
     pub fn take_unicode_prefix(&mut self) -> bool
         ensures named { self.new.place.ghost_name ≡ self.old.place.ghost_name }
         ensures same { (self.new.saved ≡ self.old.saved) × (self.new.bytes.now ≡ self.old.bytes.now) }

@@ -9,6 +9,7 @@ use refusals::Refusal;
 
 #[derive(Drop)]
 pub struct Table {
+    // an entry for each byte, the project's form of a stop set
     stops: [bool; 256],
     ghost whole: { length stops ≡ 256 },
     ghost lawful: { lawful stops ≡ true },
