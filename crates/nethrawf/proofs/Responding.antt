@@ -1,42 +1,19 @@
 -- Requests one after another. Assumes nothing.
-use Rattle.std.proofs.Common.{◌≡◌, ℕ, ◌+◌, ◌<◌, min, List, [], ◌∷◌, ◌++◌, map, length, get_or, take, drop, set, Some, None, Ok, Err, Result, IsErrAnd, sym, refl, ap, ◌∙◌, subst, append_assoc, append-nil, arith, length-append}
+use Rattle.std.proofs.Common.{◌≡◌, ℕ, ◌+◌, ◌<◌, min, List, [], ◌∷◌, ◌++◌, map, length, get_or, take, drop, set, None, sym, refl, ap, ◌∙◌, subst, append_assoc, append-nil, arith, length-append}
 use Rattle.std.proofs.lemmas.List.{take_more, take_more_set, drop-set-lt, length-take-le}
 use Rattle.store.specs.Held.{Held}
 use Rattle.ledger.specs.Calls as ask
 use Rattle.session.specs.declared.Session.{Session}
-use Rattle.session.specs.declared.Call.{Call}
-use Rattle.refusals.specs.declared.Refusal.{Refusal}
-use Rattle.refusals.specs.declared.Refusal.TheVariants.{MalformedCommand}
-use Rattle.refusals.specs.Numbers.{number_of}
-use Rattle.session.specs.declared.Answer.{Answer}
 use Rattle.ledger.specs.Ledger.{Limits}
 use Rattle.ledger.specs.Life.{Lived}
-use Rattle.session.specs.Calls.{Lives, Carries, LivesOn}
+use Rattle.session.specs.Calls.{Lives, Carries}
 use Rattle.session.specs.Views.{ledger_of}
-use Rattle.session.specs.Performs.{asked, reply}
 use Rattle.session.proofs.Carrying.{still, joined, as_told}
 use Rattle.nethrawf.specs.declared.forms.Request.{Request}
 use Rattle.nethrawf.specs.declared.forms.Response.{Response}
 use Rattle.nethrawf.specs.Numbers.{asks, written}
 use Rattle.nethrawf.specs.Lives.{exchanged, exchanges, MalformedRefused, Performed, Served}
 use Rattle.nethrawf.specs.Exports.{LivedThrough}
-
-module _ (w : List ℕ → ℕ) (text : List ℕ) (x : Session) (h : Held) where
-  -- one request, asking for a call or for none
-
-  pub performed :
-      (q : Request) (c : Call) (a : ask.Reply) (x' : Session) (h' : Held) → asks q ≡ Some (asked c) → LivesOn w text (asked c) x h a x' h' → Performed w text x h q a x' h'
-  performed q c a x' h' e lives = record {
-    malformed = λ none. absurd (cc);
-    lives = subst (λ z. Carries w text x h (exchanged z a) x' h') (sym e) lives;
-  }
-
-  pub malformed : (q : Request) (r : Result Answer Refusal) (f : Refusal) → IsErrAnd r (λ e. e ≡ f) → f ≡ MalformedCommand → asks q ≡ None → Performed w text x h q (reply r) x h
-  malformed q (Ok a) f passed why e = absurd passed
-  malformed q (Err g) f passed why e = record {
-    malformed = λ none. ap (λ (z : Refusal). ask.refused (number_of z)) (passed ∙ why);
-    lives = subst (λ z. Carries w text x h (exchanged z (reply (Err g))) x h) (sym e) (still w text x h);
-  }
 
 -- one request and one reply more
 
