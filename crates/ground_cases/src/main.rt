@@ -9,6 +9,7 @@ use source::text::{LIMIT, Text, check};
 use source::trial::{Place, Trial};
 use std::alloc::Global;
 use std::fmt::Display;
+use std::fs;
 use stops::search::search;
 use stops::sets::{DoubleQuote, SingleQuote, StopSet, Template};
 use stops::table::Table;
@@ -135,7 +136,8 @@ fn trial_puts_back() -> bool {
 
 fn main(rt: HostRuntime) -> anyhow::Result<()> {
     let heap = rt.alloc();
-    let tally = replay(&rt, "cases.txt", |line| agrees(heap, line))?;
+    let text = fs::read_to_string(&rt, "cases.txt")?;
+    let tally = replay(&rt, text.as_str(), |line| agrees(heap, line))?;
     println!(rt; "{tally}")?;
     println!(rt; "the limit is kept: {}", at_the_limit(heap)?)?;
     println!(rt; "the law of stop sets is kept: {}", law_is_kept())?;

@@ -11,6 +11,7 @@ use replaying::{cut, replay, unhexed};
 use source::text::Text;
 use std::alloc::Global;
 use std::fmt::Write;
+use std::fs;
 use tokens::Token;
 
 // A function and no `FromStr`: the trait and the type both are of other crates, and a type of this one around a `Scan` is
@@ -93,7 +94,8 @@ fn agrees(heap: Global, line: &str) -> anyhow::Result<bool> {
 
 fn main(rt: HostRuntime) -> anyhow::Result<()> {
     let heap = rt.alloc();
-    let tally = replay(&rt, "cases.txt", |line| agrees(heap, line))?;
+    let text = fs::read_to_string(&rt, "cases.txt")?;
+    let tally = replay(&rt, text.as_str(), |line| agrees(heap, line))?;
     println!(rt; "{tally}")?;
     Ok(())
 }

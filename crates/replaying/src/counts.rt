@@ -1,9 +1,8 @@
-ghost use Rattle.std.specs.Prelude.{ℕ, ◌≡◌, ◌+◌, ◌<◌, ◌^◌, IfOk, if◌then◌else◌, List, ◌++◌, codes, Some};
+ghost use Rattle.std.specs.Prelude.{◌≡◌, ◌+◌, ◌<◌, ◌^◌, IfOk, if◌then◌else◌, ◌++◌, codes, Some};
 ghost use Rattle.std.specs.Fmt.{decimal};
 ghost use Rattle.replaying.specs.Calls.{Counts};
 
-use std::rt::Files;
-use std::{fmt, fs};
+use std::fmt;
 
 // How many lines give the answer that they expect, and how many another.
 #[derive(Clone, Copy, Debug, Default, PartialEq, Eq)]
@@ -36,7 +35,7 @@ impl fmt::Display for Tally {
 }
 
 // Asks about each line of a text whether it agrees, and prints those that do not.
-fn replay_text<R: Print, F: FnMut(&str) -> anyhow::Result<bool>>(
+pub fn replay<R: Print, F: FnMut(&str) -> anyhow::Result<bool>>(
     rt: &R,
     text: &str,
     mut agrees: F,
@@ -55,35 +54,18 @@ fn replay_text<R: Print, F: FnMut(&str) -> anyhow::Result<bool>>(
     Ok(tally)
 }
 
-// Asks about each line of a file whether it agrees, and prints those that do not. That the text is the file's is shown by
-// a test: no contract can say what a file holds.
-pub fn replay<R: Files + AllocGlobal + Print, F: FnMut(&str) -> anyhow::Result<bool>>(
-    rt: &R,
-    path: &str,
-    agrees: F,
-) -> anyhow::Result<Tally>
-    requires { F.IsAlwaysCallable agrees }
-    ensures { IfOk result (λ t. (text : List ℕ) × Counts F.step (λ line. line.now) agrees text t.agree t.differ) }
-{
-    let text = fs::read_to_string(rt, path)?;
-    replay_text(rt, text.as_str(), agrees)
-}
-
 #[cfg(test)]
 mod tests {
     use super::{Tally, replay};
-    use std::fs;
     use std::test::Fail;
 
     #[test]
-    fn lines_of_a_file_are_counted(rt: HostRuntime) -> Result<(), Fail> {
-        fs::write(&rt, "replayed.txt", "one\ntwo\none\n")?;
+    fn lines_are_counted(rt: HostRuntime) -> Result<(), Fail> {
         let mut asked = 0u64;
-        let tally = replay(&rt, "replayed.txt", |line| {
+        let tally = replay(&rt, "one\ntwo\none\n", |line| {
             asked = asked.saturating_add(1);
             Ok(line == "one")
         })?;
-        fs::remove_file(&rt, "replayed.txt")?;
         let expected = Tally {
             agree: 2,
             differ: 1,

@@ -12,6 +12,7 @@ use call::Call;
 use lists::{replay_faults, replay_maps};
 use replaying::replay;
 use std::alloc::Global;
+use std::fs;
 use stores::replay_stores;
 
 // The answers to a script's calls, and whether two stores told the same values at its end.
@@ -42,7 +43,8 @@ fn replay_line(heap: Global, line: &str) -> anyhow::Result<(bool, bool)> {
 fn main(rt: HostRuntime) -> anyhow::Result<()> {
     let heap = rt.alloc();
     let mut alike = 0u64;
-    let tally = replay(&rt, "scripts.txt", |line| {
+    let text = fs::read_to_string(&rt, "scripts.txt")?;
+    let tally = replay(&rt, text.as_str(), |line| {
         let (agrees, same) = replay_line(heap, line)?;
         alike = alike.saturating_add(u64::from(same));
         Ok(agrees)

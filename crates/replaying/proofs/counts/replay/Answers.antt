@@ -3,7 +3,7 @@ use Rattle.std.proofs.lemmas.Grind.{common_steps}
 use Rattle.std.proofs.lemmas.Iterator.{items_from_drains}
 use Rattle.std.proofs.lemmas.Iterator.Splits.{YieldsList-from_lines}
 use Rattle.replaying.proofs.CallLemmas.{FoldsTo-push}
-use Rattle.replaying.proofs.counts.replay_text.Goals as goal
+use Rattle.replaying.proofs.counts.replay.Goals as goal
 
 pub loop-line-preserved : goal.loop-line-preserved
 loop-line-preserved g c =

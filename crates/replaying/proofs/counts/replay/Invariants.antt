@@ -3,7 +3,7 @@ use Rattle.std.specs.Prelude.{count_by}
 use Rattle.std.specs.List.{FoldsTo}
 use denote.Param.Always.{always_mut}
 use Rattle.std.specs.Str.Iter.{lines_rest}
-use Rattle.replaying.proofs.counts.replay_text.Given as goal
+use Rattle.replaying.proofs.counts.replay.Given as goal
 
 abbrev pub invariant-loop-line : goal.invariant-loop-line
 invariant-loop-line g l =
