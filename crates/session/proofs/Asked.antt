@@ -1,5 +1,5 @@
 -- What the questions reply is what the ledger says. Assumes nothing.
-use Rattle.std.proofs.Common.{◌≡◌, ℕ, zero, suc, Bool, true, false, cond, ◌||◌, ltb, List, [], ◌∷◌, length, get_or, Some, None, Ok, Err, Option, Result, sym, refl, ap, ◌∙◌, arith}
+use Rattle.std.proofs.Common.{◌≡◌, ℕ, zero, suc, Bool, true, false, cond, ltb, List, [], ◌∷◌, length, get_or, Some, None, Ok, Err, Option, Result, sym, refl, ap, ◌∙◌, arith}
 use Rattle.std.specs.Option.{ok_or}
 use Rattle.std.proofs.lemmas.List.{get_or_past}
 use Rattle.std.proofs.lemmas.Bool.{ltb-false, le-ltb, cond-false}
@@ -16,15 +16,8 @@ use Rattle.ledger.specs.Ledger.{number_by, value_numbered, kept_by, value_told, 
 use Rattle.session.specs.declared.Session.{Session}
 use Rattle.session.specs.Replies.{value_by, value_reply, unit_by, unit_reply, fault_reply, value_of}
 use Rattle.session.specs.Views.{ledger_of}
-use Rattle.session.specs.Calls.{came_to_put, refused_weight, Asks}
+use Rattle.session.specs.Calls.{refused_weight, Asks}
 use Rattle.session.proofs.Goes.{asks}
-
-same_length : (n : ℕ) → ltb n n ≡ false
-same_length n = le-ltb n n (omega arith)
-
--- no question comes to put units
-unput : (a : Reply) (h : Held) → refused_weight a ≡ false → came_to_put a h h ≡ false
-unput a h e = ap (λ (b : Bool). b || ltb (length h.values) (length h.values)) e ∙ same_length (length h.values)
 
 -- what the store answers of a value's units
 
@@ -63,7 +56,7 @@ module _ (w : List ℕ → ℕ) (x : Session) (h : Held) where
   -- the value question
 
   value_asks : (s : ℕ) (a : Reply) → a ≡ value_asked (kept_by (ledger_of x (dropped h)) (number s)) → refused_weight a ≡ false → Asks w (value s) x h a
-  value_asks s a e f = asks w (value s) x h a (λ text. (e, refl)) (unput a h f)
+  value_asks s a e f = asks w (value s) x h a (λ text. (e, refl)) f
 
   pub no_entry : (s : ℕ) (r : Result (Option ℕ) Refusal) → r ≡ Err NoEntry → None ≡ number s → Asks w (value s) x h (value_reply r)
   no_entry s r is q = value_asks s (value_reply r) (ap value_reply is ∙ ap (λ z. value_asked (kept_by (ledger_of x (dropped h)) z)) q) (ap (λ z. refused_weight (value_reply z)) is)
@@ -82,7 +75,7 @@ module _ (w : List ℕ → ℕ) (x : Session) (h : Held) where
   -- the unit question
 
   unit_asks : (s i : ℕ) (a : Reply) → a ≡ unit_asked (kept_by (ledger_of x (dropped h)) (number s)) i → refused_weight a ≡ false → Asks w (unit s i) x h a
-  unit_asks s i a e f = asks w (unit s i) x h a (λ text. (e, refl)) (unput a h f)
+  unit_asks s i a e f = asks w (unit s i) x h a (λ text. (e, refl)) f
 
   pub no_entry_unit : (s i : ℕ) (r : Result ℕ Refusal) → r ≡ Err NoEntry → None ≡ number s → Asks w (unit s i) x h (unit_reply r)
   no_entry_unit s i r is q = unit_asks s i (unit_reply r) (ap unit_reply is ∙ ap (λ z. unit_asked (kept_by (ledger_of x (dropped h)) z) i) q) (ap (λ z. refused_weight (unit_reply z)) is)
@@ -100,7 +93,7 @@ module _ (w : List ℕ → ℕ) (x : Session) (h : Held) where
   -- the fault questions
 
   pub counted_faults : (n : ℕ) → n ≡ length (faults_of x.faults) → Asks w fault_count x h (counted n)
-  counted_faults n e = asks w fault_count x h (counted n) (λ text. (ap counted e, refl)) (unput (counted n) h refl)
+  counted_faults n e = asks w fault_count x h (counted n) (λ text. (ap counted e, refl)) refl
 
   pub a_fault : (i : ℕ) (r : Result Fault Refusal) → numbered r ≡ fault_told (faults_of x.faults) i → Asks w (fault_at i) x h (fault_reply r)
-  a_fault i r e = asks w (fault_at i) x h (fault_reply r) (λ text. (ap fault_by e, refl)) (unput (fault_reply r) h (ap (λ z. refused_weight (fault_by z)) e ∙ fault_unput (faults_of x.faults) i))
+  a_fault i r e = asks w (fault_at i) x h (fault_reply r) (λ text. (ap fault_by e, refl)) (ap (λ z. refused_weight (fault_by z)) e ∙ fault_unput (faults_of x.faults) i)

@@ -1,5 +1,6 @@
 -- A call of a session goes on with every life. Assumes nothing.
-use Rattle.std.proofs.Common.{◌≡◌, ℕ, Bool, true, false, cond, List, [], ◌∷◌, ◌++◌, length, Option, sym, refl, ap, ◌∙◌, subst}
+use Rattle.std.proofs.Common.{◌≡◌, ℕ, Bool, true, false, cond, ◌||◌, ltb, List, [], ◌∷◌, ◌++◌, length, Option, sym, refl, ap, ◌∙◌, subst, arith}
+use Rattle.std.proofs.lemmas.Bool.{le-ltb}
 use Rattle.faults.specs.declared.list.Fault.{Fault}
 use Rattle.faults.specs.Records.{faults_of, records_of}
 use Rattle.slots.specs.declared.map.Slot.{Slot}
@@ -11,7 +12,7 @@ use Rattle.ledger.specs.Life.{Lived}
 use Rattle.ledger.proofs.Lives as ledger
 use Rattle.session.specs.declared.Session.{Session}
 use Rattle.session.specs.Views.{lent, limits_of, ledger_of, Memory, memory_of}
-use Rattle.session.specs.Calls.{Lives, came_to_put, Called, GoesOn, Asks}
+use Rattle.session.specs.Calls.{Lives, refused_weight, came_to_put, Called, Plays, GoesOn, Asks}
 
 emptied : (b : Bool) (d d' : List ℕ) → d' ≡ cond b [] d → d ≡ [] → d' ≡ []
 emptied true d d' e f = e
@@ -31,11 +32,24 @@ goes_on w text c x h a x' h' called m stored past lived =
     subst (λ (z : Limits). Lived w m text stored (past ++ (says c a ∷ [])) z (ledger_of x' h')) (sym (called.limits ∙ lived.limits))
     (ledger.goes_on w m text stored past (ledger_of x h) c a (ledger_of x' h') (subst (λ (z : Limits). Lived w m text stored past z (ledger_of x h)) lived.limits lived) step)
 
+pub plays : (w : List ℕ → ℕ) (text : List ℕ) (c : Call) (x : Session) (h : Held) (a : Reply) (x' : Session) (h' : Held) → Called w text c x h a x' h' → Plays w text c x h a x' h'
+plays w text c x h a x' h' called = record { called = called; lives = goes_on w text c x h a x' h' called }
+
+pub same_length : (n : ℕ) → ltb n n ≡ false
+same_length n = le-ltb n n (omega arith)
+
+-- a call that leaves session and store as they are, and came to put no unit
+pub unaltered :
+    (w : List ℕ → ℕ) (text : List ℕ) (c : Call) (x : Session) (h : Held) (a : Reply) → Step w (limits_of x h) text (ledger_of x (dropped h)) c a (ledger_of x (dropped h)) → refused_weight a ≡ false
+    → Called w text c x h a x h
+unaltered w text c x h a step light =
+    let unput : came_to_put a h h ≡ false = ap (λ (b : Bool). b || ltb (length h.values) (length h.values)) light ∙ same_length (length h.values) in
+    record { step = step; limits = refl; left_open = ap (λ (b : Bool). cond b [] h.draft) (sym unput); strings_kept = λ e. refl; templates_kept = λ e. refl; records_kept = λ e. refl; beyond = refl }
+
 -- a question that replies what the ledger says
-pub asks : (w : List ℕ → ℕ) (c : Call) (x : Session) (h : Held) (a : Reply) → ((text : List ℕ) → Step w (limits_of x h) text (ledger_of x (dropped h)) c a (ledger_of x (dropped h))) → came_to_put a h h ≡ false → Asks w c x h a
-asks w c x h a step unput =
-    let so : (text : List ℕ) → Called w text c x h a x h =
-    λ text. record { step = step text; limits = refl; left_open = ap (λ (b : Bool). cond b [] h.draft) (sym unput); strings_kept = λ e. refl; templates_kept = λ e. refl; records_kept = λ e. refl; beyond = refl } in
+pub asks : (w : List ℕ → ℕ) (c : Call) (x : Session) (h : Held) (a : Reply) → ((text : List ℕ) → Step w (limits_of x h) text (ledger_of x (dropped h)) c a (ledger_of x (dropped h))) → refused_weight a ≡ false → Asks w c x h a
+asks w c x h a step light =
+    let so : (text : List ℕ) → Called w text c x h a x h = λ text. unaltered w text c x h a (step text) light in
     record { called = so; lives = λ text. goes_on w text c x h a x h (so text) }
 
 -- the making

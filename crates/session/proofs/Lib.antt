@@ -4,6 +4,7 @@ pub mod Putting
 pub mod Recording
 pub mod Filing
 pub mod Scanning
+pub mod Seeing
 pub mod Looking
 pub mod Performing
 pub mod Serving

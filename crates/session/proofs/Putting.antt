@@ -12,7 +12,7 @@ use Rattle.look.specs.declared.literal.Literal.{Literal}
 use Rattle.look.specs.declared.units.UnitReader.{UnitReader}
 use Rattle.look.specs.Units.{Gave, AllGiven, Gives}
 use Rattle.look.proofs.GivesUnits.{gave_drained}
-use Rattle.session.specs.Scans.{IsRead}
+use Rattle.session.specs.Literals.{IsRead}
 
 -- those that a loop over them took are all of them
 pub drained : (l : Literal) (q r : UnitReader) (us : List ℕ) → q.literal ≡ l → Gave q [] → r ≡ q → Drains Gives r us → AllGiven l.inside.bytes.now l.start l.opening us
@@ -24,9 +24,6 @@ pub record Midway (w : List ℕ → ℕ) (h₀ : Held) (given : List ℕ) (h : H
   pub narrow : Narrow given
   pub in_full : b ≡ true → h ≡ holding h₀ given
   pub too_many : b ≡ false → (dropped h ≡ dropped h₀) × (in_room w (holding h₀ given) ≡ false)
-
-pub begun : (w : List ℕ → ℕ) (h₀ h : Held) → h ≡ dropped h₀ → Midway w h₀ [] h true
-begun w h₀ h e = record { narrow = tt; in_full = λ t. e; too_many = λ f. absurd (true≢false f) }
 
 module _ (w : List ℕ → ℕ) (h₀ : Held) (given : List ℕ) (h : Held) (b : Bool) (mid : Midway w h₀ given h b) where
   module _ (heavier : (v : List ℕ) (u : ℕ) → Narrow v → u < 65536 → w v + 1 ≤ w (v ++ (u ∷ []))) (u : ℕ) (small : u < 65536) where

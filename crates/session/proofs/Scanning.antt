@@ -1,5 +1,5 @@
 -- What a scan's code has to show, case by case. Assumes nothing.
-use Rattle.std.proofs.Common.{◌≡◌, ℕ, ◌+◌, ◌-◌, ◌<◌, ◌≤◌, Bool, true, false, cond, not, ◌&&◌, ◌||◌, eqb, ltb, leb, List, [], ◌∷◌, ◌++◌, length, get_or, drop, is_some, Some, None, Err, Option, sym, refl, ap, ◌∙◌, subst, inl, inr, append-nil, arith}
+use Rattle.std.proofs.Common.{◌≡◌, ℕ, ◌+◌, ◌-◌, ◌<◌, ◌≤◌, Bool, true, false, cond, not, ◌&&◌, eqb, ltb, leb, List, [], ◌∷◌, ◌++◌, length, get_or, drop, is_some, Some, None, Err, Option, sym, refl, ap, ◌∙◌, subst, inl, inr, append-nil, arith}
 use Rattle.std.proofs.lemmas.List.{length-append}
 use Rattle.std.proofs.lemmas.Bool.{lt-ltb, le-ltb, ltb-true, ltb-false, leb-true, leb-false, cond-true, cond-false, true≢false}
 use Rattle.refusals.specs.declared.Refusal.{Refusal}
@@ -22,9 +22,7 @@ use Rattle.session.specs.declared.Session.{Session}
 use Rattle.session.specs.Views.{limits_of, ledger_of}
 use Rattle.session.specs.Calls.{came_to_put, Called}
 use Rattle.session.specs.Scans.{Put, Entered, Recorded, Files}
-
-pub same_length : (n : ℕ) → ltb n n ≡ false
-same_length n = le-ltb n n (omega arith)
+use Rattle.session.proofs.Goes.{same_length, unaltered}
 
 pub length_recorded : (fs : List outcome.Fault) → length (recorded fs) ≡ length fs
 length_recorded [] = refl
@@ -79,27 +77,19 @@ module _ (w : List ℕ → ℕ) (nothing : w [] ≡ 0) (text : List ℕ) (k : So
   abbrev m : Limits
   m = limits_of x h
 
-  unaltered : (n : ℕ) → eqb n 12 ≡ false → Scanned w m text k s l (refused n) l → Called w text (scan k s) x h (refused n) x h
-  unaltered n other z = record {
-    step = z;
-    limits = refl;
-    left_open = ap (λ (b : Bool). cond b [] h.draft) (sym (ap (λ (b : Bool). b || ltb (length h.values) (length h.values)) other ∙ same_length (length h.values)));
-    strings_kept = λ e. refl;
-    templates_kept = λ e. refl;
-    records_kept = λ e. refl;
-    beyond = refl;
-  }
+  turned_down : (n : ℕ) → eqb n 12 ≡ false → Scanned w m text k s l (refused n) l → Called w text (scan k s) x h (refused n) x h
+  turned_down n other z = unaltered w text (scan k s) x h (refused n) z other
 
   -- the start is past the text; another byte stands there
   pub past_text : (n : ℕ) → n ≡ 3 → length text ≤ s → Called w text (scan k s) x h (refused n) x h
   past_text n is ge =
       subst (λ (z : ℕ). Called w text (scan k s) x h (refused z) x h) (sym is)
-      (unaltered 3 refl (record { outside = λ q. (refl, refl); unopened = λ lt p. absurd (omega arith); opened = λ lt o. absurd (omega arith) }))
+      (turned_down 3 refl (record { outside = λ q. (refl, refl); unopened = λ lt p. absurd (omega arith); opened = λ lt o. absurd (omega arith) }))
 
   pub wrong_opening : (n : ℕ) → n ≡ 4 → s < length text → opens k (get_or text s 0) ≡ false → Called w text (scan k s) x h (refused n) x h
   wrong_opening n is lt other =
       subst (λ (z : ℕ). Called w text (scan k s) x h (refused z) x h) (sym is)
-      (unaltered 4 refl (record { outside = λ q. absurd (omega arith); unopened = λ q p. (refl, refl); opened = λ q o. absurd (true≢false (sym o ∙ other)) }))
+      (turned_down 4 refl (record { outside = λ q. absurd (omega arith); unopened = λ q p. (refl, refl); opened = λ q o. absurd (true≢false (sym o ∙ other)) }))
 
   module _ (lt : s < length text) (right : opens k (get_or text s 0) ≡ true) (r : Read) (reading : Reading (utf8 text) r) (from : r.from ≡ s) (sort : sort_of r.scan ≡ k) where
     opened_so : (a : Reply) (l' : Ledger) (o : Option ℕ) → exceeded w m l r ≡ o → Decided o r l a l' → Scanned w m text k s l a l'
@@ -110,7 +100,7 @@ module _ (w : List ℕ → ℕ) (nothing : w [] ≡ 0) (text : List ℕ) (k : So
     }
 
     turns : (n : ℕ) → exceeded w m l r ≡ Some n → eqb n 12 ≡ false → Called w text (scan k s) x h (refused n) x h
-    turns n e other = unaltered n other (opened_so (refused n) l (Some n) e (refl, refl))
+    turns n e other = turned_down n other (opened_so (refused n) l (Some n) e (refl, refl))
 
     turns_12 : exceeded w m l r ≡ Some 12 → Called w text (scan k s) x h (refused 12) x (dropped h)
     turns_12 e = record {

@@ -43,6 +43,11 @@ abbrev pub LivesOn : (List ℕ → ℕ) → List ℕ → Call → Session → He
 LivesOn w text c x h a x' h' =
     (m : Limits) (stored : List (List ℕ)) (past : List Exchange) → Lives w m text stored past x h → Lives w m text stored (past ++ (says c a ∷ [])) x' h'
 
+-- one call of a session: it does what is asked, and every life goes on by it
+pub record Plays (w : List ℕ → ℕ) (text : List ℕ) (c : Call) (x : Session) (h : Held) (a : Reply) (x' : Session) (h' : Held) : Type 0 where
+  pub called : Called w text c x h a x' h'
+  pub lives : LivesOn w text c x h a x' h'
+
 -- and by some exchanges one after another
 abbrev pub Carries : (List ℕ → ℕ) → List ℕ → Session → Held → List Exchange → Session → Held → Type 0
 Carries w text x h es x' h' = (m : Limits) (stored : List (List ℕ)) (past : List Exchange) → Lives w m text stored past x h → Lives w m text stored (past ++ es) x' h'

@@ -8,7 +8,7 @@ use Rattle.session.specs.declared.Call.TheVariants as call
 use Rattle.session.specs.declared.Answer.{Answer}
 use Rattle.session.specs.declared.Answer.TheVariants as answer
 use Rattle.session.specs.Replies.{value_by}
-use Rattle.session.specs.Scans.{sort_by}
+use Rattle.session.specs.Literals.{sort_by}
 
 -- what a call asks
 abbrev pub asked : Call → ask.Call

@@ -1,15 +1,15 @@
 -- The parts of a scan: what is put into the store, what is entered, and what is recorded. Assumes nothing.
-use Rattle.std.specs.Prelude.{◌≡◌, ℕ, Bool, true, false, not, ◌&&◌, ◌⊎◌, List, [], ◌∷◌, ◌++◌, length, drop, is_some, Some, None, Ok, Err, Option, Result}
+use Rattle.std.specs.Prelude.{◌≡◌, ℕ, Bool, true, false, not, ◌&&◌, ◌⊎◌, List, [], ◌∷◌, ◌++◌, length, drop, is_some, slice_index, Some, None, Ok, Err, Option, Result}
 use Rattle.refusals.specs.declared.Refusal.{Refusal}
 use Rattle.refusals.specs.Numbers.{number_of, numbered}
-use Rattle.grammar.specs.Utf8.{utf8}
-use Rattle.grammar.specs.Reading.{Read, Reading}
+use Rattle.grammar.specs.Reading.{Read}
 use Rattle.grammar.specs.Outcome.{units_read}
 use Rattle.source.specs.declared.text.Text.{Text}
 use Rattle.tokens.specs.declared.Token.{Token}
 use Rattle.look.specs.declared.literal.Literal.{Literal}
 use Rattle.look.specs.declared.answer.Scan.{Scan}
-use Rattle.look.specs.declared.answer.Scan.TheVariants.{Str, Template, Resumption}
+use Rattle.look.specs.Looked.{opens, suits, LookedAt}
+use Rattle.pieces.specs.Pieces.{scan_of}
 use Rattle.faults.specs.declared.list.Fault.{Fault}
 use Rattle.faults.specs.declared.list.FaultList.{FaultList}
 use Rattle.faults.specs.Records as faulty
@@ -17,20 +17,18 @@ use Rattle.slots.specs.declared.map.SlotMap.{SlotMap}
 use Rattle.slots.specs.Entries.{has_slot, lookup}
 use Rattle.slots.specs.Views as slotted
 use Rattle.store.specs.Held.{Held, holding, dropped, closed, in_room, has_place, kept, keep_told}
-use Rattle.ledger.specs.Calls.{Sort, string, template, resumption}
 use Rattle.session.specs.declared.Session.{Session}
-
-abbrev pub sort_by : Scan → Sort
-sort_by Str = string
-sort_by Template = template
-sort_by Resumption = resumption
+use Rattle.session.specs.declared.seen.Seen.{Seen}
+use Rattle.session.specs.Literals.{IsRead}
 
 abbrev pub bytes_of : Text → List ℕ
 bytes_of t = t.bytes.now
 
--- r is the reading of a literal
-abbrev pub IsRead : Literal → Read → Type 0
-IsRead l r = Reading (utf8 l.inside.bytes.now) r × (r.from ≡ l.start)
+-- what a scan sees at a start: a literal that opens there, and the look at it
+abbrev pub Sees : List ℕ → ℕ → Scan → Seen → Type 0
+Sees text s k x =
+    (x.literal.inside.bytes.now ≡ text) × (x.literal.start ≡ s) × (x.scan ≡ k) × (opens k (slice_index text s) ≡ true) × (suits k (scan_of x.literal.opening) ≡ true)
+    × LookedAt x.literal.inside.bytes.now x.literal.start x.literal.opening x.look
 
 -- the units of a literal, stored as a value at once
 abbrev pub Stores : (List ℕ → ℕ) → Literal → Held → Result ℕ Refusal → Held → Type 0

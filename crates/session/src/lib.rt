@@ -17,6 +17,7 @@ mod life;
 mod perform;
 mod questions;
 mod scans;
+mod seen;
 
 pub use life::serve;
 

@@ -1,5 +1,5 @@
 // One call, whichever it is.
-ghost use Rattle.session.specs.Calls.{Called, LivesOn};
+ghost use Rattle.session.specs.Calls.{Plays};
 ghost use Rattle.session.specs.Performs.{asked, reply};
 ghost use Rattle.session.specs.Scans.{bytes_of};
 
@@ -10,14 +10,14 @@ use store::ValueStore;
 
 impl<'a> Session<'a> {
     // Performs one call.
+    #[tactic(auto, using(crate::proofs::Performing::performed, crate::proofs::Performing::question))]
     pub fn perform<S: ValueStore>(
         &mut self,
         store: &mut S,
         text: Text<'_>,
         call: Call,
     ) -> Result<Answer, Refusal>
-        ensures called { Called S.ValueStore.weight (bytes_of text.entry) (asked call) self.old (S.ValueStore.held store.old) (reply result) self.new (S.ValueStore.held store.new) }
-        ensures lives { LivesOn S.ValueStore.weight (bytes_of text.entry) (asked call) self.old (S.ValueStore.held store.old) (reply result) self.new (S.ValueStore.held store.new) }
+        ensures { Plays S.ValueStore.weight (bytes_of text.entry) (asked call) self.old (S.ValueStore.held store.old) (reply result) self.new (S.ValueStore.held store.new) }
     {
         match call {
             Call::Scan(scan, start) => self.scan(store, text, start, scan).map(Answer::Token),

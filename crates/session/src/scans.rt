@@ -11,13 +11,15 @@ ghost use Rattle.store.specs.Held.{fits, with_unit, has_place, closed, dropped};
 ghost use Rattle.ledger.specs.Calls as ask;
 ghost use Rattle.ledger.specs.Ledger.{of_string};
 ghost use Rattle.session.specs.Replies.{token_reply};
-ghost use Rattle.session.specs.Calls.{Called, LivesOn};
-ghost use Rattle.session.specs.Scans.{sort_by, bytes_of, IsRead, Stores, Recorded, Files, Needed, needs, Keeps};
+ghost use Rattle.session.specs.Calls.{Plays};
+ghost use Rattle.session.specs.Literals.{sort_by, IsRead};
+ghost use Rattle.session.specs.Scans.{bytes_of, Stores, Recorded, Files, Needed, needs, Keeps};
 
 use super::Session;
 use super::entry::Entry;
+use super::seen::Seen;
 use faults::FaultList;
-use look::answer::{Look, Scan};
+use look::answer::Scan;
 use look::literal::Literal;
 use refusals::Refusal;
 use slots::SlotMap;
@@ -33,8 +35,7 @@ impl<'a> Session<'a> {
         text: Text<'_>,
         start: usize,
     ) -> Result<Token, Refusal>
-        ensures called { Called S.ValueStore.weight (bytes_of text.entry) (ask.scan ask.string start) self.old (S.ValueStore.held store.old) (token_reply result) self.new (S.ValueStore.held store.new) }
-        ensures lives { LivesOn S.ValueStore.weight (bytes_of text.entry) (ask.scan ask.string start) self.old (S.ValueStore.held store.old) (token_reply result) self.new (S.ValueStore.held store.new) }
+        ensures { Plays S.ValueStore.weight (bytes_of text.entry) (ask.scan ask.string start) self.old (S.ValueStore.held store.old) (token_reply result) self.new (S.ValueStore.held store.new) }
     {
         self.scan(store, text, start, Scan::Str)
     }
@@ -46,8 +47,7 @@ impl<'a> Session<'a> {
         text: Text<'_>,
         start: usize,
     ) -> Result<Token, Refusal>
-        ensures called { Called S.ValueStore.weight (bytes_of text.entry) (ask.scan ask.template start) self.old (S.ValueStore.held store.old) (token_reply result) self.new (S.ValueStore.held store.new) }
-        ensures lives { LivesOn S.ValueStore.weight (bytes_of text.entry) (ask.scan ask.template start) self.old (S.ValueStore.held store.old) (token_reply result) self.new (S.ValueStore.held store.new) }
+        ensures { Plays S.ValueStore.weight (bytes_of text.entry) (ask.scan ask.template start) self.old (S.ValueStore.held store.old) (token_reply result) self.new (S.ValueStore.held store.new) }
     {
         self.scan(store, text, start, Scan::Template)
     }
@@ -59,8 +59,7 @@ impl<'a> Session<'a> {
         text: Text<'_>,
         start: usize,
     ) -> Result<Token, Refusal>
-        ensures called { Called S.ValueStore.weight (bytes_of text.entry) (ask.scan ask.resumption start) self.old (S.ValueStore.held store.old) (token_reply result) self.new (S.ValueStore.held store.new) }
-        ensures lives { LivesOn S.ValueStore.weight (bytes_of text.entry) (ask.scan ask.resumption start) self.old (S.ValueStore.held store.old) (token_reply result) self.new (S.ValueStore.held store.new) }
+        ensures { Plays S.ValueStore.weight (bytes_of text.entry) (ask.scan ask.resumption start) self.old (S.ValueStore.held store.old) (token_reply result) self.new (S.ValueStore.held store.new) }
     {
         self.scan(store, text, start, Scan::Resumption)
     }
@@ -73,33 +72,24 @@ impl<'a> Session<'a> {
         start: usize,
         scan: Scan,
     ) -> Result<Token, Refusal>
-        ensures called { Called S.ValueStore.weight (bytes_of text.entry) (ask.scan (sort_by scan) start) self.old (S.ValueStore.held store.old) (token_reply result) self.new (S.ValueStore.held store.new) }
-        ensures lives { LivesOn S.ValueStore.weight (bytes_of text.entry) (ask.scan (sort_by scan) start) self.old (S.ValueStore.held store.old) (token_reply result) self.new (S.ValueStore.held store.new) }
+        ensures { Plays S.ValueStore.weight (bytes_of text.entry) (ask.scan (sort_by scan) start) self.old (S.ValueStore.held store.old) (token_reply result) self.new (S.ValueStore.held store.new) }
     {
-        let literal = Literal::find(text, start, scan)?;
-        let seen = literal.look();
-        if seen.faults > free_records(&self.faults) {
+        let seen = Seen::find(text, start, scan)?;
+        if seen.look.faults > free_records(&self.faults) {
             return Err(Refusal::NoRecord);
         }
-        self.keep(store, literal, scan, seen)?;
-        record(&mut self.faults, literal);
-        Ok(seen.token)
+        self.keep(store, seen)?;
+        record(&mut self.faults, seen.literal);
+        Ok(seen.look.token)
     }
 
     // Files a literal's value in the table of its sort, or that none is cooked, if it is escaped and its start has no entry there.
-    fn keep<S: ValueStore>(
-        &mut self,
-        store: &mut S,
-        literal: Literal<'_>,
-        scan: Scan,
-        seen: Look,
-    ) -> Result<(), Refusal>
-        requires { of_string (sort_by scan) ≡ true → is_some seen.units ≡ true }
-        ensures { (read : Read) → IsRead literal.entry read → is_some seen.units ≡ is_some (units_read read) → Keeps (of_string (sort_by scan)) S.ValueStore.weight self.old (S.ValueStore.held store.old) seen.token (units_read read) result self.new (S.ValueStore.held store.new) }
+    fn keep<S: ValueStore>(&mut self, store: &mut S, seen: Seen<'_>) -> Result<(), Refusal>
+        ensures { (read : Read) → IsRead seen.entry.literal read → Keeps (of_string (sort_by seen.entry.scan)) S.ValueStore.weight self.old (S.ValueStore.held store.old) seen.entry.look.token (units_read read) result self.new (S.ValueStore.held store.new) }
     {
-        match scan {
-            Scan::Str => keep(&mut self.strings, store, literal, seen),
-            Scan::Template | Scan::Resumption => keep(&mut self.templates, store, literal, seen),
+        match seen.scan {
+            Scan::Str => keep(&mut self.strings, store, seen),
+            Scan::Template | Scan::Resumption => keep(&mut self.templates, store, seen),
         }
     }
 }
@@ -108,36 +98,36 @@ impl<'a> Session<'a> {
 fn keep<S: ValueStore, V: Entry>(
     entries: &mut SlotMap<'_, V>,
     store: &mut S,
-    literal: Literal<'_>,
-    seen: Look,
+    seen: Seen<'_>,
 ) -> Result<(), Refusal>
-    requires { V.always ≡ true → is_some seen.units ≡ true }
-    ensures { (read : Read) → IsRead literal.entry read → is_some seen.units ≡ is_some (units_read read) → Needed (needs seen.token entries.old) V.holds S.ValueStore.weight entries.old (S.ValueStore.held store.old) seen.token.start (units_read read) result entries.new (S.ValueStore.held store.new) }
+    requires { V.always ≡ true → is_some seen.look.units ≡ true }
+    ensures { (read : Read) → IsRead seen.entry.literal read → Needed (needs seen.entry.look.token entries.old) V.holds S.ValueStore.weight entries.old (S.ValueStore.held store.old) seen.entry.look.token.start (units_read read) result entries.new (S.ValueStore.held store.new) }
 {
-    if !seen.token.escaped || entries.find(seen.token.start).is_some() {
+    let token = seen.look.token;
+    if !token.escaped || entries.find(token.start).is_some() {
         return Ok(());
     }
-    file(entries, store, literal, seen)
+    file(entries, store, seen)
 }
 
 // Stores a literal's units, if a value is cooked, and enters the value's number or none, if there are a slot, a place and capacity.
 fn file<S: ValueStore, V: Entry>(
     entries: &mut SlotMap<'_, V>,
     store: &mut S,
-    literal: Literal<'_>,
-    seen: Look,
+    seen: Seen<'_>,
 ) -> Result<(), Refusal>
-    requires { V.always ≡ true → is_some seen.units ≡ true }
-    ensures { (read : Read) → IsRead literal.entry read → is_some seen.units ≡ is_some (units_read read) → is_some (lookup (entries_of entries.old) seen.token.start) ≡ false → Files V.holds S.ValueStore.weight entries.old (S.ValueStore.held store.old) seen.token.start (units_read read) result entries.new (S.ValueStore.held store.new) }
+    requires { V.always ≡ true → is_some seen.look.units ≡ true }
+    ensures { (read : Read) → IsRead seen.entry.literal read → is_some (lookup (entries_of entries.old) seen.entry.look.token.start) ≡ false → Files V.holds S.ValueStore.weight entries.old (S.ValueStore.held store.old) seen.entry.look.token.start (units_read read) result entries.new (S.ValueStore.held store.new) }
 {
     if entries.count() >= entries.room() {
         return Err(Refusal::NoSlot);
     }
-    if seen.units.is_none() {
-        return entries.insert(seen.token.start, V::of(None));
+    let start = seen.look.token.start;
+    if seen.look.units.is_none() {
+        return entries.insert(start, V::of(None));
     }
-    let number = put_units(store, literal)?;
-    entries.insert(seen.token.start, V::of(Some(number)))
+    let number = put_units(store, seen.literal)?;
+    entries.insert(start, V::of(Some(number)))
 }
 
 // How many records are free.
@@ -157,6 +147,7 @@ fn put_units<S: ValueStore>(store: &mut S, literal: Literal<'_>) -> Result<usize
     }
     store.drop_open();
     let mut fits = true;
+    // to the last, since what does not fit is told by the weight of all
     for unit in literal.units() {
         fits = put_on(store, unit, fits);
     }
@@ -169,10 +160,7 @@ fn put_on<S: ValueStore>(store: &mut S, unit: u16, fitted: bool) -> bool
     ensures after { S.ValueStore.held store.new ≡ (if fitted && fits S.ValueStore.weight (S.ValueStore.held store.old) unit then with_unit (S.ValueStore.held store.old) unit else S.ValueStore.held store.old) }
     ensures narrow { unit < 65536 }
 {
-    if !fitted {
-        return false;
-    }
-    store.put(unit).is_ok()
+    fitted && store.put(unit).is_ok()
 }
 
 // Finishes the open value, or drops it where not all of it fitted.

@@ -2,26 +2,21 @@ use Rattle.std.proofs.Common.{◌≤◌, arith}
 use Rattle.std.proofs.lemmas.Result.{err_from_is_err_and}
 use Rattle.store.specs.Held.{weighed}
 use Rattle.session.specs.Scans.{bytes_of}
-use Rattle.session.proofs.Looking.{passed_on, unseen, string_has, too_many, done, undone}
+use Rattle.session.proofs.Looking.{passed_on, unseen, too_many, done, undone}
 use Rattle.session.proofs.Session.scan.Goals as goal
 
-pub returns-in_err-literal : goal.returns-in_err-literal
-returns-in_err-literal g c =
+pub returns-in_err-seen : goal.returns-in_err-seen
+returns-in_err-seen g c =
     let s = g.S.ValueStore in
     let p = err_from_is_err_and c.from_residual.result c.from_residual.ensures.1 in
     passed_on s.weight (bytes_of c.args.text) c.args.scan c.args.start c.args.self.now (s.held c.args.store.now) c.from_residual.result p.0 _ c.args.self.now (s.held c.args.store.now) p.1 p.2
-    (unseen s.weight s.lawful.nothing (bytes_of c.args.text) c.args.scan c.args.start c.args.self.now (s.held c.args.store.now) _ c.in_err-literal.ensures)
+    (unseen s.weight s.lawful.nothing (bytes_of c.args.text) c.args.scan c.args.start c.args.self.now (s.held c.args.store.now) _ c.in_err-seen.ensures)
 
 pub returns-then-seen-free_records : goal.returns-then-seen-free_records
 returns-then-seen-free_records g c =
     let s = g.S.ValueStore in
-    too_many s.weight s.lawful.nothing (bytes_of c.args.text) c.args.scan c.args.start c.args.self.now (s.held c.args.store.now) c.in_ok-literal.literal c.in_ok-literal.ensures c.look-seen.result c.look-seen.ensures
+    too_many s.weight s.lawful.nothing (bytes_of c.args.text) c.args.scan c.args.start c.args.self.now (s.held c.args.store.now) c.in_ok-seen.seen c.in_ok-seen.ensures
     c.free_records.result c.free_records.ensures c.if-seen-free_records.true
-
-pub keep-requires : goal.keep-requires
-keep-requires g c =
-    let s = g.S.ValueStore in
-    string_has s.weight s.lawful.nothing (bytes_of c.args.text) c.args.scan c.args.start c.args.self.now (s.held c.args.store.now) c.in_ok-literal.literal c.in_ok-literal.ensures c.look-seen.result c.look-seen.ensures
 
 pub returns-in_err-keep : goal.returns-in_err-keep
 returns-in_err-keep g c =
@@ -31,7 +26,7 @@ returns-in_err-keep g c =
     let light : weighed s.weight h.values ≤ h.capacity = omega (arith, sound.light) in
     let p = err_from_is_err_and c.from_residual-in_err-keep.result c.from_residual-in_err-keep.ensures.1 in
     passed_on s.weight (bytes_of c.args.text) c.args.scan c.args.start c.args.self.now h c.from_residual-in_err-keep.result p.0 _ c.keep.new.self (s.held c.keep.new.store) p.1 p.2
-    (undone s.weight s.lawful.nothing (bytes_of c.args.text) c.args.scan c.args.start c.args.self.now h c.in_ok-literal.literal c.in_ok-literal.ensures c.look-seen.result c.look-seen.ensures
+    (undone s.weight s.lawful.nothing (bytes_of c.args.text) c.args.scan c.args.start c.args.self.now h c.in_ok-seen.seen c.in_ok-seen.ensures
     c.free_records.result c.free_records.ensures c.if-seen-free_records.false light c.keep.new.self (s.held c.keep.new.store) _ c.keep.result c.in_err-keep.was c.keep.ensures)
 
 pub returns : goal.returns
@@ -40,5 +35,5 @@ returns g c =
     let h = s.held c.args.store.now in
     let sound = s.lawful.sound c.args.store.now in
     let light : weighed s.weight h.values ≤ h.capacity = omega (arith, sound.light) in
-    done s.weight s.lawful.nothing (bytes_of c.args.text) c.args.scan c.args.start c.args.self.now h c.in_ok-literal.literal c.in_ok-literal.ensures c.look-seen.result c.look-seen.ensures
+    done s.weight s.lawful.nothing (bytes_of c.args.text) c.args.scan c.args.start c.args.self.now h c.in_ok-seen.seen c.in_ok-seen.ensures
     c.free_records.result c.free_records.ensures c.if-seen-free_records.false light c.keep.new.self (s.held c.keep.new.store) _ c.record.ensures c.keep.result c.in_ok-keep.was c.keep.ensures

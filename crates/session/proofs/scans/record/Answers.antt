@@ -1,5 +1,10 @@
-use Rattle.session.proofs.Recording.{drained, finished}
+use Rattle.std.proofs.Common.{rules}
+use Rattle.session.proofs.Recording.{drained, one_more, finished}
 use Rattle.session.proofs.scans.record.Goals as goal
+
+pub loop-fault-preserved : goal.loop-fault-preserved
+loop-fault-preserved c =
+    one_more c.args.faults.now c.loop-fault.yielded c.loop-fault.faults c.loop-fault.invariant c.in-Some.fault _ (search rules) (search rules) (search rules)
 
 pub returns : goal.returns
 returns c r reads =
