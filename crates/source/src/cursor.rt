@@ -70,7 +70,8 @@ impl<'t> Cursor<'t> {
         Some((c, self.place.at + c.len_utf8()))
     }
 
-    // Takes the character at the place: its number and the place behind it, where the cursor then stands.
+    // Takes the character at the place: its number and the place behind it, where the cursor then stands. No `Iterator`, since
+    // a cursor is copied, and a `for` would go on in a copy.
     pub fn next(&mut self) -> Option<(u32, usize)>
         ensures text { self.new.bytes.now ≡ self.old.bytes.now }
         ensures char { CharAt self.old.bytes.now self.old.place.at result }

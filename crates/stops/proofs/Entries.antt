@@ -1,12 +1,11 @@
 -- A test of a whole table, from each of its entries. Assumes nothing.
 use Rattle.std.specs.Prelude.{◌≡◌, ℕ, suc, ◌+◌, ◌<◌, ◌≤◌, Bool, true, false, List, [], ◌∷◌, length, get_or, slice_index_or, refl}
-use Rattle.std.proofs.Common.{◌∙◌, subst, sym, ap, add-zero, zero-add, add-suc, suc-add, arith}
-use Rattle.std.proofs.lemmas.Bool.{and_from}
+use Rattle.std.proofs.Common.{◌-◌, take, drop, length-take, length-drop, ◌∙◌, subst, sym, ap, ⊎_elim, add-zero, zero-add, add-suc, suc-add, arith}
+use Rattle.std.proofs.lemmas.Bool.{and_from, both_ways, cases_Bool}
 use Rattle.std.proofs.lemmas.Bool.Decides.{nat_tests}
 use Rattle.std.specs.Bool.{beq}
 use Rattle.stops.specs.Stops.{every, wanted, tabled}
-use Rattle.stops.specs.Entries.{range_at, tabled_at}
-use Rattle.std.proofs.Common.{◌-◌, take, drop, length-take, length-drop}
+use Rattle.stops.specs.Entries.{every_at, wanted_use, range_at, tabled_at}
 use Rattle.std.specs.Cmp.{booleans_Decides}
 use Rattle.std.specs.List.{list_all}
 use Rattle.std.proofs.lemmas.List.{get_or-take, get_or-drop, get_or_default}
@@ -28,6 +27,13 @@ all_wanted lo hi want xs h =
     to (wanted lo hi want) xs 0
     (λ k l. subst (λ (m : ℕ). wanted lo hi want m (slice_index_or xs k false) ≡ true) (sym (zero-add k))
     (wanted_from lo hi want k (slice_index_or xs k false) (λ a b. (booleans_Decides (slice_index_or xs k false) want).1 (h k a b))))
+
+-- one entry of the range that is not as wanted
+pub not_wanted : (lo hi : ℕ) (want : Bool) (xs : List Bool) (k : ℕ) → k < length xs → lo ≤ k → k ≤ hi → beq (slice_index_or xs k false) want ≡ false → every (wanted lo hi want) 0 xs ≡ false
+not_wanted lo hi want xs k l a b n =
+    let f = wanted_use lo hi want k (slice_index_or xs k false) a b ∙ n in
+    ⊎_elim (λ t. absurd (both_ways (wanted lo hi want k (slice_index_or xs k false)) f (every_at (wanted lo hi want) xs t k l))) (λ e. e)
+    (cases_Bool (every (wanted lo hi want) 0 xs))
 
 -- the entries of a range are tested alone
 pub range_alone : (lo hi : ℕ) (want : Bool) (xs : List Bool) → lo ≤ hi → hi < length xs → list_all (λ x. beq x want) (take (hi + 1 - lo) (drop lo xs)) ≡ every (wanted lo hi want) 0 xs

@@ -1,7 +1,7 @@
 -- The first stop from a boundary is a boundary, by the law of stop sets. Assumes nothing.
 use Rattle.std.proofs.Common.{◌≡◌, ℕ, zero, suc, ◌+◌, ◌-◌, ◌/◌, ◌<◌, ◌≤◌, Bool, true, false, cond, ltb, List, [], ◌∷◌, ◌++◌, length, get_or, IfSome, Some, None, IsUtf8, Option, sym, refl, ap, ◌∙◌, subst, inl, inr, ⊎_elim, not-suc-le-zero, arith, length-append}
 use lib.Utf8.{encode, encodes, scalar, scalars, scalar_cases, next}
-use Rattle.std.proofs.lemmas.List.{get_or_append_left}
+use Rattle.std.proofs.lemmas.List.{get_or_append_left, get_or-append_right}
 use Rattle.std.proofs.lemmas.Bool.{ltb-true, cases_lt, both_ways, and_parts}
 use Rattle.std.specs.Str.{IsCharBoundary}
 use Rattle.stops.specs.Stops.{Safe}
@@ -69,8 +69,7 @@ led_here c r (suc p) s h g =
     }
 
 shifted : (xs ys : List ℕ) (k : ℕ) → get_or (xs ++ ys) (length xs + k) 0 ≡ get_or ys k 0
-shifted [] ys k = ap (λ (n : ℕ). get_or ys n 0) (omega arith)
-shifted (x ∷ xs) ys k = let e : length (x ∷ xs) + k ≡ suc (length xs + k) = omega arith in ap (λ (n : ℕ). get_or (x ∷ (xs ++ ys)) n 0) e ∙ shifted xs ys k
+shifted xs ys k = get_or-append_right xs ys (length xs) (length xs + k) 0 refl (omega arith) ∙ ap (λ (n : ℕ). get_or ys n 0) (omega arith)
 
 led_later : (xs ys : List ℕ) (p : ℕ) → Led ys p → Led (xs ++ ys) (length xs + p)
 led_later xs ys p d =
@@ -81,9 +80,8 @@ led_later xs ys p d =
       low = omega (arith, d.low);
       high = omega (arith, d.high);
       between = λ k a b.
-          let n : length xs + (k - length xs) ≡ k = omega arith in
           let g = d.between (k - length xs) (omega arith) (omega arith) in
-          let f : get_or (xs ++ ys) k 0 ≡ get_or ys (k - length xs) 0 = ap (λ (m : ℕ). get_or (xs ++ ys) m 0) (sym n) ∙ shifted xs ys (k - length xs) in
+          let f = get_or-append_right xs ys (length xs) k 0 refl (omega arith) in
           (omega (arith, g.0), omega (arith, g.1));
     }
 
@@ -94,7 +92,7 @@ led (c ∷ cs) p s h g =
     ⊎_elim (λ l. led_here c (encodes cs) p sc.0 l g)
     (λ l.
     let n : length (encode c) + (p - length (encode c)) ≡ p = omega arith in
-    let f : get_or (encode c ++ encodes cs) p 0 ≡ get_or (encodes cs) (p - length (encode c)) 0 = ap (λ (m : ℕ). get_or (encode c ++ encodes cs) m 0) (sym n) ∙ shifted (encode c) (encodes cs) (p - length (encode c)) in
+    let f = get_or-append_right (encode c) (encodes cs) (length (encode c)) p 0 refl l in
     let w : p - length (encode c) < length (encodes cs) = omega (arith, length-append (encode c) (encodes cs)) in
     subst (λ (m : ℕ). Led (encode c ++ encodes cs) m) n
     (led_later (encode c) (encodes cs) (p - length (encode c)) (led cs (p - length (encode c)) sc.1 w (omega (arith, g.0), omega (arith, g.1)))))

@@ -15,10 +15,10 @@ from f (x ∷ xs) i t (suc k) h =
     (from f xs (suc i) (and_parts (f i x) (every f (suc i) xs) t).1 k (le_of_suc-le-suc h))
 
 -- what one test of the whole table says of each entry
-every_at : (f : ℕ → Bool → Bool) (xs : List Bool) → every f 0 xs ≡ true → (k : ℕ) → k < length xs → f k (slice_index_or xs k false) ≡ true
+pub every_at : (f : ℕ → Bool → Bool) (xs : List Bool) → every f 0 xs ≡ true → (k : ℕ) → k < length xs → f k (slice_index_or xs k false) ≡ true
 every_at f xs t k h = subst (λ (m : ℕ). f m (slice_index_or xs k false) ≡ true) (zero-add k) (from f xs 0 t k h)
 
-wanted_use : (lo hi : ℕ) (want : Bool) (k : ℕ) (x : Bool) → lo ≤ k → k ≤ hi → wanted lo hi want k x ≡ beq x want
+pub wanted_use : (lo hi : ℕ) (want : Bool) (k : ℕ) (x : Bool) → lo ≤ k → k ≤ hi → wanted lo hi want k x ≡ beq x want
 wanted_use lo hi want k x a b = grind (arith, nat_tests)
 
 pub range_at : (lo hi : ℕ) (want : Bool) (xs : List Bool) → every (wanted lo hi want) 0 xs ≡ true → hi < length xs → (b : ℕ) → lo ≤ b → b ≤ hi → slice_index_or xs b false ≡ want

@@ -16,7 +16,8 @@ pub fn search<S: StopSet>(set: &S, bytes: &[u8], from: usize) -> Option<(usize, 
     first_stop(set, bytes, from)
 }
 
-// The first stop, batch by batch.
+// The first stop, batch by batch. Two loops and a label, so that the inner one always goes over as
+// many bytes and is unrolled.
 fn first_stop<S: StopSet>(set: &S, bytes: &[u8], from: usize) -> Option<(usize, u8)>
     ensures { FirstStop (S.StopSet.stops set.now) bytes.now from result }
 {

@@ -1,11 +1,10 @@
 -- How many stops some bytes have, and where the first is. Assumes nothing.
-use Rattle.std.specs.Prelude.{ℕ, ◌+◌, Bool, cond, List, [], ◌∷◌, length, Some, None, Option}
+use Rattle.std.specs.Prelude.{ℕ, Bool, List, length, Some, None, Option, count_by}
 use Rattle.stops.specs.First.{Free, StopAt}
 
 -- how many of the bytes stop
 abbrev pub tally : (ℕ → Bool) → List ℕ → ℕ
-tally stops [] = 0
-tally stops (b ∷ bytes) = cond (stops b) 1 0 + tally stops bytes
+tally stops bytes = count_by stops bytes
 
 -- the place of the first stop, or none where no byte stops
 abbrev pub FirstPlace : (ℕ → Bool) → List ℕ → Option ℕ → Type 0

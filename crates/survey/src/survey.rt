@@ -7,7 +7,7 @@ ghost use Rattle.stops.specs.Stops.{double, single, template};
 ghost use Rattle.survey.specs.Tally.{tally, FirstPlace};
 
 use refusals::Refusal;
-use source::text::{Text, check};
+use source::text::Text;
 use stops::search::search;
 use stops::sets::{DoubleQuote, SingleQuote, StopSet, Template};
 
@@ -34,10 +34,10 @@ pub fn survey_script(bytes: &[u8]) -> Result<Survey, Refusal>
     ensures counts { IfOk result (λ s. (s.double.count ≡ tally double bytes.now) × (s.single.count ≡ tally single bytes.now) × (s.template.count ≡ tally template bytes.now)) }
     ensures firsts { IfOk result (λ s. FirstPlace double bytes.now s.double.first × FirstPlace single bytes.now s.single.first × FirstPlace template bytes.now s.template.first) }
 {
-    check(bytes)?;
+    let text = Text::try_from(bytes)?;
     Ok(Survey {
         bytes: bytes.len(),
-        chars: count_chars(Text::new(bytes)),
+        chars: count_chars(text),
         double: find_stops(&DoubleQuote, bytes),
         single: find_stops(&SingleQuote, bytes),
         template: find_stops(&Template, bytes),
@@ -56,13 +56,9 @@ pub fn find_stops<S: StopSet>(set: &S, bytes: &[u8]) -> Stops
     ensures count { result.count ≡ tally (S.StopSet.stops set.now) bytes.now }
     ensures first { FirstPlace (S.StopSet.stops set.now) bytes.now result.first }
 {
-    let first = match search(set, bytes, 0) {
-        Some((place, _)) => Some(place),
-        None => None,
-    };
     Stops {
         count: count_stops(set, bytes),
-        first,
+        first: search(set, bytes, 0).map(|(place, _)| place),
     }
 }
 
@@ -70,11 +66,5 @@ pub fn find_stops<S: StopSet>(set: &S, bytes: &[u8]) -> Stops
 pub fn count_stops<S: StopSet>(set: &S, bytes: &[u8]) -> usize
     ensures { result ≡ tally (S.StopSet.stops set.now) bytes.now }
 {
-    let mut count: usize = 0;
-    let mut from: usize = 0;
-    while let Some((place, _)) = search(set, bytes, from) {
-        count += 1;
-        from = place + 1;
-    }
-    count
+    bytes.iter().filter(|byte| set.has(**byte)).count()
 }
