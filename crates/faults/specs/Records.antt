@@ -1,5 +1,5 @@
 -- Faults by number and word. A fault list: its lent records, how many of them it may use, and the faults recorded. Assumes nothing.
-use Rattle.std.specs.Prelude.{ℕ, List, ◌++◌, Result, codes, slice_get}
+use Rattle.std.specs.Prelude.{ℕ, Bool, List, ◌++◌, Result, codes, slice_get}
 use Rattle.std.specs.Fmt.{decimal}
 use Rattle.std.specs.Option.{ok_or}
 use Rattle.lent.specs.Items as lent
@@ -32,6 +32,10 @@ faults_of l = lent.items_of l.records
 -- the records, up to 4,096
 abbrev pub room_of : FaultList → ℕ
 room_of l = lent.room_of l.records
+
+-- some record is free
+abbrev pub has_record : FaultList → Bool
+has_record l = lent.free l.records
 
 -- the fault at an index, or that there is none
 abbrev pub fault_told : List Fault → ℕ → Result Fault ℕ

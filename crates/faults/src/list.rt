@@ -1,6 +1,6 @@
-ghost use Rattle.std.specs.Prelude.{◌≡◌, false, [], ◌∷◌, ◌++◌, length, drop, if◌then◌else◌, Ok, Err, nat_lt, Some};
+ghost use Rattle.std.specs.Prelude.{◌≡◌, false, [], ◌∷◌, ◌++◌, length, drop, if◌then◌else◌, Ok, Err, Some};
 ghost use Rattle.refusals.specs.Numbers.{numbered};
-ghost use Rattle.faults.specs.Records.{kind_of, word_of, fault_text, records_of, faults_of, room_of, fault_told};
+ghost use Rattle.faults.specs.Records.{kind_of, word_of, fault_text, records_of, faults_of, room_of, has_record, fault_told};
 
 use lent::Lent;
 use refusals::Refusal;
@@ -104,9 +104,9 @@ impl<'a> FaultList<'a> {
 
     // One fault more.
     pub fn append(&mut self, fault: Fault) -> Result<(), Refusal>
-        ensures answer { numbered result ≡ (if nat_lt (length (faults_of self.old)) (room_of self.old) then Ok tt else Err 9) }
-        ensures after { faults_of self.new ≡ (if nat_lt (length (faults_of self.old)) (room_of self.old) then faults_of self.old ++ (fault ∷ []) else faults_of self.old) }
-        ensures refused { nat_lt (length (faults_of self.old)) (room_of self.old) ≡ false → records_of self.new ≡ records_of self.old }
+        ensures answer { numbered result ≡ (if has_record self.old then Ok tt else Err 9) }
+        ensures after { faults_of self.new ≡ (if has_record self.old then faults_of self.old ++ (fault ∷ []) else faults_of self.old) }
+        ensures refused { has_record self.old ≡ false → records_of self.new ≡ records_of self.old }
         ensures past { drop 4096 (records_of self.new) ≡ drop 4096 (records_of self.old) }
         ensures room { room_of self.new ≡ room_of self.old }
         ensures lent { self.new.records.memory.ghost_name ≡ self.old.records.memory.ghost_name }

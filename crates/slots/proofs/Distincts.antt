@@ -1,9 +1,9 @@
--- At most one entry a start: an entry of another start keeps it, and what it says. Assumes nothing.
+-- At most one entry a start: an insert keeps it, and what it says. Assumes nothing.
 use Rattle.std.proofs.Common.{◌≡◌, ℕ, zero, suc, ◌<◌, Bool, true, false, cond, not, eqb, List, [], ◌∷◌, ◌++◌, length, is_some, Some, None, Option, sym, refl, ap, ◌∙◌, arith}
 use Rattle.std.proofs.lemmas.Bool.{eq-eqb, ne_eqb, eqb-false, cond-true, and_parts, and_from, true≢false, not-true, not_from_false}
 use Rattle.std.proofs.lemmas.List.{map_push}
 use Rattle.slots.specs.declared.map.Slot.{Slot}
-use Rattle.slots.specs.Entries.{lookup, distinct, start_at, OneAStart}
+use Rattle.slots.specs.Entries.{lookup, has_slot, inserted, distinct, start_at, OneAStart}
 use Rattle.slots.specs.Slots.{told, entries}
 
 swapped : (a b : ℕ) → eqb a b ≡ false → eqb b a ≡ false
@@ -33,6 +33,14 @@ module _ {V : Type 0} where
       and_from (not (is_some (lookup (es ++ ((s, v) ∷ [])) e.0))) (distinct (es ++ ((s, v) ∷ [])))
       (not_from_false _ (added_other es s e.0 v (swapped e.0 s q.0) (not-true _ p.0)))
       (distinct_added es s v p.1 q.1)
+
+  pub distinct_inserted : (es es' : List (ℕ × V)) (room s : ℕ) (v : V) → es' ≡ inserted es room s v → distinct es ≡ true → distinct es' ≡ true
+  distinct_inserted es es' room s v e d = ap distinct e ∙ go (has_slot es room) (is_some (lookup es s)) refl
+    where
+      go : (b c : Bool) → is_some (lookup es s) ≡ c → distinct (cond b (cond c es (es ++ ((s, v) ∷ []))) es) ≡ true
+      go false c h = d
+      go true true h = d
+      go true false h = distinct_added es s v d h
 
   -- one slot more, where one is free
   pub distinct_pushed : (xs xs' : List (Slot V)) (free : Bool) (x : Slot V) → xs' ≡ cond free (xs ++ (x ∷ [])) xs → is_some (lookup (entries xs) x.start) ≡ false → distinct (entries xs) ≡ true → distinct (entries xs') ≡ true

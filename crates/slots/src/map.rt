@@ -51,6 +51,7 @@ impl<'a, V: Copy> SlotMap<'a, V> {
     }
 
     // How many entries there are, each of another start.
+    #[tactic(auto, using(crate::proofs::Distincts::one_a_start))]
     pub fn count(&self) -> usize
         ensures number { result ≡ length (entries_of self.now) }
         ensures unique { OneAStart (entries_of self.now) }
@@ -70,6 +71,7 @@ impl<'a, V: Copy> SlotMap<'a, V> {
     }
 
     // One entry more. A start that has one keeps it.
+    #[tactic(auto, using(crate::proofs::Distincts::distinct_pushed))]
     pub fn insert(&mut self, start: usize, value: V) -> Result<(), Refusal>
         ensures answer { numbered result ≡ (if has_slot (entries_of self.old) (room_of self.old) then Ok tt else Err 10) }
         ensures after { entries_of self.new ≡ inserted (entries_of self.old) (room_of self.old) start value }
