@@ -1,10 +1,10 @@
 -- A high half at the end of bytes. Assumes nothing.
-use Rattle.std.proofs.Common.{◌≡◌, ℕ, ◌+◌, ◌-◌, ◌*◌, ◌/◌, ◌%◌, ◌<◌, ◌≤◌, Bool, true, false, cond, ltb, leb, List, [], ◌∷◌, ◌++◌, length, get_or, take, drop, sym, refl, ap, ◌∙◌, ⊎_elim, arith}
-use lib.Utf8.{encode, next}
+use Rattle.std.proofs.Common.{◌≡◌, ℕ, ◌+◌, ◌-◌, ◌*◌, ◌/◌, ◌%◌, ◌<◌, ◌≤◌, true, ltb, leb, List, [], ◌∷◌, ◌++◌, length, get_or, take, drop, Some, None, Option, ◌⊎◌, inl, inr, sym, refl, ap, ◌∙◌, arith}
+use lib.Utf8.{next}
 use Rattle.std.proofs.lemmas.List.{append_assoc, length-append, take-append-drop, drop_more, drop_all, get_or-append-add}
-use Rattle.std.proofs.lemmas.Bool.{le-leb, lt-ltb, and_from, cond-true, cond-false, cases_Bool, true≢false}
+use Rattle.std.proofs.lemmas.Bool.{le-leb, lt-ltb, and_from, cond-true}
 use Rattle.coding.specs.Codes.{high, wtf8, starts, units, trail, recode}
-use Rattle.coding.proofs.Trips.{starts_0, trail_more, wtf8_high, front, high_range, encode_3}
+use Rattle.coding.proofs.Trips.{starts_0, trail_more, trail_high, wtf8_high, front, high_range, encode_3}
 
 units_tail : (x t : List ℕ) → (p : List ℕ) × (units (x ++ t) ≡ p ++ units t)
 units_tail [] t = ([], refl)
@@ -27,7 +27,7 @@ last_three bs h =
 
 -- the three bytes are there: the half that they are
 pub half_there : (bs : List ℕ) → 3 ≤ length bs → get_or bs (length bs - 3) 0 ≡ 237 → 160 ≤ get_or bs (length bs - 2) 0 → get_or bs (length bs - 2) 0 < 176 → 128 ≤ get_or bs (length bs - 1) 0 → get_or bs (length bs - 1) 0 < 192
-    → 53248 + (get_or bs (length bs - 2) 0 % 64) * 64 + get_or bs (length bs - 1) 0 % 64 ≡ trail (units bs)
+    → Some (53248 + (get_or bs (length bs - 2) 0 % 64) * 64 + get_or bs (length bs - 1) 0 % 64) ≡ trail (units bs)
 half_there bs long e h k i j =
     let b : ℕ = get_or bs (length bs - 2) 0 in
     let c : ℕ = get_or bs (length bs - 1) 0 in
@@ -35,7 +35,7 @@ half_there bs long e h k i j =
     let q = units_tail (take (length bs - 3) bs) (237 ∷ b ∷ c ∷ []) in
     let is : units bs ≡ q.0 ++ (v ∷ []) = ap units (last_three bs long ∙ ap (λ t. take (length bs - 3) bs ++ (t ∷ b ∷ c ∷ [])) e) ∙ q.1 ∙ ap (λ t. q.0 ++ t) (three_here b c h k i j) in
     let hi : high v ≡ true = and_from (leb 55296 v) (ltb v 56320) (le-leb 55296 v (omega arith)) (lt-ltb v 56320 (omega arith)) in
-    sym (ap trail is ∙ trail_more q.0 v ∙ cond-true (high v) v 0 hi)
+    sym (ap trail is ∙ trail_more q.0 v ∙ cond-true (high v) (Some v) None hi)
 
 -- what a half at the end leaves there
 pub record Ended (bs : List ℕ) : Type 0 where
@@ -44,13 +44,12 @@ pub record Ended (bs : List ℕ) : Type 0 where
   pub second : (160 ≤ get_or bs (length bs - 2) 0) × (get_or bs (length bs - 2) 0 < 176)
   pub third : (128 ≤ get_or bs (length bs - 1) 0) × (get_or bs (length bs - 1) 0 < 192)
 
-pub half_ends : (bs : List ℕ) → recode bs ≡ bs → high (trail (units bs)) ≡ true → Ended bs
-half_ends bs r h =
-    let t : ℕ = trail (units bs) in
+pub half_ends : (bs : List ℕ) (t : ℕ) → recode bs ≡ bs → trail (units bs) ≡ Some t → Ended bs
+half_ends bs t r h =
     let w : List ℕ = wtf8 (front (units bs)) in
-    let g = high_range t h in
+    let g = high_range t (trail_high (units bs) t h) in
     let tail : List ℕ = (224 + t / 4096) ∷ next (t / 64) ∷ next t ∷ [] in
-    let is : bs ≡ w ++ tail = sym r ∙ wtf8_high (units bs) h ∙ ap (λ z. w ++ z) (encode_3 t (omega (arith, g.0)) (omega (arith, g.1))) in
+    let is : bs ≡ w ++ tail = sym r ∙ wtf8_high (units bs) t h ∙ ap (λ z. w ++ z) (encode_3 t (omega (arith, g.0)) (omega (arith, g.1))) in
     let n : length bs ≡ length w + 3 = ap length is ∙ length-append w tail in
     let a3 : length bs - 3 ≡ length w + 0 = omega arith in
     let a2 : length bs - 2 ≡ length w + 1 = omega arith in
@@ -65,17 +64,10 @@ half_ends bs r h =
       third = (omega (arith, b1), omega (arith, b1));
     }
 
-trail_other : (us : List ℕ) → high (trail us) ≡ false → 0 ≡ trail us
-trail_other [] h = refl
-trail_other (u ∷ []) h = go (high u) refl
+-- without such an end no half
+pub no_half : (bs : List ℕ) → recode bs ≡ bs → (None ≡ trail (units bs)) ⊎ Ended bs
+no_half bs r = go (trail (units bs)) refl
   where
-    go : (b : Bool) → high u ≡ b → 0 ≡ cond (high u) u 0
-    go true e = absurd (true≢false (sym e ∙ ap high (sym (cond-true (high u) u 0 e)) ∙ h))
-    go false e = sym (cond-false (high u) u 0 e)
-trail_other (u ∷ (v ∷ us)) h = trail_other (v ∷ us) h
-
-pub no_half : (bs : List ℕ) → recode bs ≡ bs → (Ended bs → ⊥) → 0 ≡ trail (units bs)
-no_half bs r not = ⊎_elim (λ h. absurd (not (half_ends bs r h))) (λ h. trail_other (units bs) h) (cases_Bool (high (trail (units bs))))
-
-pub front_is : (c : ℕ) (x bs : List ℕ) → encode c ≡ x → take (length x) bs ≡ x → take (length (encode c)) bs ≡ encode c
-front_is c x bs e f = ap (λ t. take (length t) bs) e ∙ f ∙ sym e
+    go : (o : Option ℕ) → trail (units bs) ≡ o → (None ≡ o) ⊎ Ended bs
+    go None e = inl refl
+    go (Some t) e = inr (half_ends bs t r e)

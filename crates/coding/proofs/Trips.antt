@@ -1,13 +1,13 @@
 -- Units to bytes and back, and one unit more. Assumes nothing.
-use Rattle.std.proofs.Common.{◌≡◌, ℕ, ◌+◌, ◌*◌, ◌/◌, ◌%◌, ◌<◌, ◌≤◌, Bool, true, false, cond, ◌&&◌, ltb, leb, List, [], ◌∷◌, ◌++◌, length, get_or, sym, refl, ap, ◌∙◌, subst, ⊎_elim, arith}
+use Rattle.std.proofs.Common.{◌≡◌, ℕ, ◌+◌, ◌*◌, ◌/◌, ◌%◌, ◌<◌, ◌≤◌, Bool, true, false, cond, ◌&&◌, ltb, leb, List, [], ◌∷◌, ◌++◌, length, get_or, sym, refl, ap, ◌∙◌, subst, Some, None, Option, ⊎_elim, arith}
 use lib.Utf8.{encode, encodes, next}
 use Rattle.std.specs.Char.{len_utf8}
 use Rattle.std.proofs.lemmas.List.{length-append, append_assoc, append-nil}
 use Rattle.std.proofs.lemmas.Str.{encodes-append, length-encode}
-use Rattle.std.proofs.lemmas.Bool.{leb-true, ltb-true, lt-ltb, le-ltb, lt-leb, and_parts, and_from, and_left, and_right, cond-true, cond-false, cases_lt, true≢false}
+use Rattle.std.proofs.lemmas.Bool.{leb-true, ltb-true, lt-ltb, le-ltb, lt-leb, and_parts, and_from, and_left, and_right, cond-true, cond-false, cases_lt, cases_Bool, true≢false}
 use Rattle.store.specs.Held.{Narrow}
 use Rattle.store.proofs.Narrows.{narrow_append}
-use Rattle.coding.specs.Codes.{high, low, join, points, wtf8, weight, two, three, four, starts, units, trail}
+use Rattle.coding.specs.Codes.{high, low, join, points, wtf8, weight, two, three, four, starts, units, trail, pairs}
 
 pub high_range : (u : ℕ) → high u ≡ true → (55296 ≤ u) × (u < 56320)
 high_range u e = let p = and_parts (leb 55296 u) (ltb u 56320) e in (leb-true 55296 u p.0, ltb-true u 56320 p.1)
@@ -128,16 +128,16 @@ narrow_front (u ∷ []) n = tt
 narrow_front (u ∷ (v ∷ us)) n = (n.0, narrow_front (v ∷ us) n.1)
 
 -- one unit more
-pub points_more : (us : List ℕ) (u : ℕ) → (high (trail us) && low u) ≡ false → points (us ++ (u ∷ [])) ≡ points us ++ (u ∷ [])
+pub points_more : (us : List ℕ) (u : ℕ) → pairs (trail us) u ≡ false → points (us ++ (u ∷ [])) ≡ points us ++ (u ∷ [])
 points_more [] u h = refl
 points_more (x ∷ []) u h = go (high x) refl
   where
     go : (b : Bool) → high x ≡ b → cond (high x && low u) (join x u ∷ []) (x ∷ u ∷ []) ≡ x ∷ u ∷ []
-    go true e = cond-false _ _ _ (subst (λ t. (high t && low u) ≡ false) (cond-true (high x) x 0 e) h)
+    go true e = cond-false _ _ _ (subst (λ t. pairs t u ≡ false) (cond-true (high x) (Some x) None e) h)
     go false e = cond-false _ _ _ (and_left (high x) (low u) e)
 points_more (x ∷ (y ∷ us)) u h = go (high x && low y) refl (points_more (y ∷ us) u h) (inner us h (λ k. points_more us u k))
   where
-    inner : (vs : List ℕ) → (high (trail (y ∷ vs)) && low u) ≡ false → ((high (trail vs) && low u) ≡ false → points (vs ++ (u ∷ [])) ≡ points vs ++ (u ∷ [])) → points (vs ++ (u ∷ [])) ≡ points vs ++ (u ∷ [])
+    inner : (vs : List ℕ) → pairs (trail (y ∷ vs)) u ≡ false → (pairs (trail vs) u ≡ false → points (vs ++ (u ∷ [])) ≡ points vs ++ (u ∷ [])) → points (vs ++ (u ∷ [])) ≡ points vs ++ (u ∷ [])
     inner [] k f = refl
     inner (v ∷ vs) k f = f k
 
@@ -159,34 +159,48 @@ points_join (x ∷ (y ∷ us)) h l p q = go (high x && low y) (points_join (y �
     go true i k = ap (λ t. join x y ∷ t) k
     go false i k = ap (λ t. x ∷ t) i
 
-pub front_trail : (us : List ℕ) → high (trail us) ≡ true → us ≡ front us ++ (trail us ∷ [])
-front_trail [] h = absurd (true≢false (sym h))
-front_trail (u ∷ []) h = go (high u) refl
+-- a high half at the end
+pub trail_high : (us : List ℕ) (h : ℕ) → trail us ≡ Some h → high h ≡ true
+trail_high [] h e = cc
+trail_high (u ∷ []) h e = go (high u) refl
   where
-    go : (b : Bool) → high u ≡ b → u ∷ [] ≡ cond (high u) u 0 ∷ []
-    go true e = ap (λ t. t ∷ []) (sym (cond-true (high u) u 0 e))
-    go false e = absurd (true≢false (sym h ∙ ap high (cond-false (high u) u 0 e)))
-front_trail (u ∷ (v ∷ us)) h = ap (λ t. u ∷ t) (front_trail (v ∷ us) h)
+    go : (b : Bool) → high u ≡ b → high h ≡ true
+    go true k = let f : Some u ≡ Some h = sym (cond-true (high u) (Some u) None k) ∙ e in let g : u ≡ h = cc in ap high (sym g) ∙ k
+    go false k = let f : None ≡ Some h = sym (cond-false (high u) (Some u) None k) ∙ e in cc
+trail_high (u ∷ (v ∷ us)) h e = trail_high (v ∷ us) h e
 
-pub trail_more : (us : List ℕ) (u : ℕ) → trail (us ++ (u ∷ [])) ≡ cond (high u) u 0
+pub front_trail : (us : List ℕ) (h : ℕ) → trail us ≡ Some h → us ≡ front us ++ (h ∷ [])
+front_trail [] h e = cc
+front_trail (u ∷ []) h e = go (high u) refl
+  where
+    go : (b : Bool) → high u ≡ b → u ∷ [] ≡ h ∷ []
+    go true k = let f : Some u ≡ Some h = sym (cond-true (high u) (Some u) None k) ∙ e in cc
+    go false k = let f : None ≡ Some h = sym (cond-false (high u) (Some u) None k) ∙ e in cc
+front_trail (u ∷ (v ∷ us)) h e = ap (λ t. u ∷ t) (front_trail (v ∷ us) h e)
+
+pub trail_more : (us : List ℕ) (u : ℕ) → trail (us ++ (u ∷ [])) ≡ cond (high u) (Some u) None
 trail_more [] u = refl
 trail_more (x ∷ []) u = refl
 trail_more (x ∷ (y ∷ us)) u = trail_more (y ∷ us) u
 
+pub pairs_low : (half : Option ℕ) (u : ℕ) → low u ≡ false → pairs half u ≡ false
+pairs_low None u e = refl
+pairs_low (Some h) u e = and_right (high h) (low u) e
+
 -- the bytes of one unit more
-pub wtf8_more : (us : List ℕ) (u : ℕ) → (high (trail us) && low u) ≡ false → wtf8 (us ++ (u ∷ [])) ≡ wtf8 us ++ encode u
+pub wtf8_more : (us : List ℕ) (u : ℕ) → pairs (trail us) u ≡ false → wtf8 (us ++ (u ∷ [])) ≡ wtf8 us ++ encode u
 wtf8_more us u h = ap encodes (points_more us u h) ∙ encodes-append (points us) (u ∷ []) ∙ ap (λ t. wtf8 us ++ t) (append-nil (encode u))
 
-pub wtf8_high : (us : List ℕ) → high (trail us) ≡ true → wtf8 us ≡ wtf8 (front us) ++ encode (trail us)
-wtf8_high us h = ap wtf8 (front_trail us h) ∙ wtf8_more (front us) (trail us) (and_right (high (trail (front us))) (low (trail us)) (low_not (trail us) h))
+pub wtf8_high : (us : List ℕ) (h : ℕ) → trail us ≡ Some h → wtf8 us ≡ wtf8 (front us) ++ encode h
+wtf8_high us h e = ap wtf8 (front_trail us h e) ∙ wtf8_more (front us) h (pairs_low (trail (front us)) h (low_not h (trail_high us h e)))
 
-pub wtf8_join : (us : List ℕ) (l : ℕ) → high (trail us) ≡ true → low l ≡ true → wtf8 (us ++ (l ∷ [])) ≡ wtf8 (front us) ++ encode (join (trail us) l)
-wtf8_join us l h k =
-    ap (λ t. wtf8 (t ++ (l ∷ []))) (front_trail us h)
-    ∙ ap wtf8 (append_assoc (front us) (trail us ∷ []) (l ∷ []))
-    ∙ ap encodes (points_join (front us) (trail us) l h k)
-    ∙ encodes-append (points (front us)) (join (trail us) l ∷ [])
-    ∙ ap (λ t. wtf8 (front us) ++ t) (append-nil (encode (join (trail us) l)))
+pub wtf8_join : (us : List ℕ) (h l : ℕ) → trail us ≡ Some h → low l ≡ true → wtf8 (us ++ (l ∷ [])) ≡ wtf8 (front us) ++ encode (join h l)
+wtf8_join us h l e k =
+    ap (λ t. wtf8 (t ++ (l ∷ []))) (front_trail us h e)
+    ∙ ap wtf8 (append_assoc (front us) (h ∷ []) (l ∷ []))
+    ∙ ap encodes (points_join (front us) h l (trail_high us h e) k)
+    ∙ encodes-append (points (front us)) (join h l ∷ [])
+    ∙ ap (λ t. wtf8 (front us) ++ t) (append-nil (encode (join h l)))
 
 width_least : (c : ℕ) → 1 ≤ len_utf8 c
 width_least c = go (ltb c 128) (ltb c 2048) (ltb c 65536)
@@ -206,15 +220,6 @@ width_most c h = go (ltb c 128) (ltb c 2048) (ltb c 65536) (lt-ltb c 65536 h)
     go false false true e = omega arith
     go false false false e = absurd (true≢false (sym e))
 
-pub size_most : (c : ℕ) → length (encode c) ≤ 4
-size_most c = subst (λ n. n ≤ 4) (sym (length-encode c)) (go (ltb c 128) (ltb c 2048) (ltb c 65536))
-  where
-    go : (p q r : Bool) → cond p 1 (cond q 2 (cond r 3 4)) ≤ 4
-    go true q r = omega arith
-    go false true r = omega arith
-    go false false true = omega arith
-    go false false false = omega arith
-
 pub three_bytes : (h : ℕ) → high h ≡ true → length (encode h) ≡ 3
 three_bytes h e = let r = high_range h e in ap length (encode_3 h (omega (arith, r.0)) (omega (arith, r.1)))
 
@@ -222,27 +227,31 @@ pub four_bytes : (h l : ℕ) → length (encode (join h l)) ≡ 4
 four_bytes h l = ap length (encode_4 (join h l) (omega arith))
 
 -- the law of the weight: a low half that completes a pair adds one byte, any other unit its own
-pub weight_more : (us : List ℕ) (u : ℕ) → (high (trail us) && low u) ≡ false → weight (us ++ (u ∷ [])) ≡ weight us + length (encode u)
+pub weight_more : (us : List ℕ) (u : ℕ) → pairs (trail us) u ≡ false → weight (us ++ (u ∷ [])) ≡ weight us + length (encode u)
 weight_more us u h = ap length (wtf8_more us u h) ∙ length-append (wtf8 us) (encode u)
 
-pub weight_join : (us : List ℕ) (l : ℕ) → high (trail us) ≡ true → low l ≡ true → weight (us ++ (l ∷ [])) ≡ weight us + 1
-weight_join us l h k =
-    let a = ap length (wtf8_join us l h k) ∙ length-append (wtf8 (front us)) (encode (join (trail us) l)) in
-    let b = ap length (wtf8_high us h) ∙ length-append (wtf8 (front us)) (encode (trail us)) in
-    let c = three_bytes (trail us) h in
-    let d = four_bytes (trail us) l in
+pub weight_join : (us : List ℕ) (h l : ℕ) → trail us ≡ Some h → low l ≡ true → weight (us ++ (l ∷ [])) ≡ weight us + 1
+weight_join us h l e k =
+    let a = ap length (wtf8_join us h l e k) ∙ length-append (wtf8 (front us)) (encode (join h l)) in
+    let b = ap length (wtf8_high us h e) ∙ length-append (wtf8 (front us)) (encode h) in
+    let c = three_bytes h (trail_high us h e) in
+    let d = four_bytes h l in
     omega arith
 
-pub heavier_is : (us : List ℕ) (u : ℕ) → weight us + 1 ≤ weight (us ++ (u ∷ []))
-heavier_is us u = go (high (trail us) && low u) refl
+-- either a pair is completed, or the unit stands for itself
+pub either : (P : Type 0) (us : List ℕ) (u : ℕ) → ((h : ℕ) → trail us ≡ Some h → low u ≡ true → P) → (pairs (trail us) u ≡ false → P) → P
+either P us u joined alone = go (trail us) refl
   where
-    go : (b : Bool) → (high (trail us) && low u) ≡ b → weight us + 1 ≤ weight (us ++ (u ∷ []))
-    go true e = let p = and_parts (high (trail us)) (low u) e in let q = weight_join us u p.0 p.1 in omega arith
-    go false e = let q = weight_more us u e in let l = length-encode u in let w = width_least u in omega arith
+    go : (o : Option ℕ) → trail us ≡ o → P
+    go None e = alone (ap (λ o. pairs o u) e)
+    go (Some h) e = ⊎_elim (joined h e) (λ k. alone (pairs_low (trail us) u k)) (cases_Bool (low u))
+
+pub heavier_is : (us : List ℕ) (u : ℕ) → weight us + 1 ≤ weight (us ++ (u ∷ []))
+heavier_is us u = either (weight us + 1 ≤ weight (us ++ (u ∷ []))) us u
+    (λ h e k. let q = weight_join us h u e k in omega arith)
+    (λ k. let q = weight_more us u k in let l = length-encode u in let w = width_least u in omega arith)
 
 pub bounded_is : (us : List ℕ) (u : ℕ) → u < 65536 → weight (us ++ (u ∷ [])) ≤ weight us + 3
-bounded_is us u h = go (high (trail us) && low u) refl
-  where
-    go : (b : Bool) → (high (trail us) && low u) ≡ b → weight (us ++ (u ∷ [])) ≤ weight us + 3
-    go true e = let p = and_parts (high (trail us)) (low u) e in let q = weight_join us u p.0 p.1 in omega arith
-    go false e = let q = weight_more us u e in let l = length-encode u in let w = width_most u h in omega arith
+bounded_is us u b = either (weight (us ++ (u ∷ [])) ≤ weight us + 3) us u
+    (λ h e k. let q = weight_join us h u e k in omega arith)
+    (λ k. let q = weight_more us u k in let l = length-encode u in let w = width_most u b in omega arith)

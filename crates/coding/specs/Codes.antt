@@ -1,5 +1,5 @@
 -- WTF-8: 16-bit units as bytes, and bytes as 16-bit units. Assumes nothing.
-use Rattle.std.specs.Prelude.{ℕ, ◌+◌, ◌-◌, ◌*◌, ◌/◌, ◌%◌, Bool, cond, ◌&&◌, List, [], ◌∷◌, ◌++◌, length, nat_le, nat_lt, slice_index}
+use Rattle.std.specs.Prelude.{ℕ, ◌+◌, ◌-◌, ◌*◌, ◌/◌, ◌%◌, Bool, cond, ◌&&◌, List, [], ◌∷◌, ◌++◌, Some, None, Option, false, length, nat_le, nat_lt, slice_index}
 use Rattle.std.proofs.Math.Utf8.{encodes}
 
 -- the halves of a pair, and the code point that two of them are
@@ -44,19 +44,25 @@ abbrev pub units : List ℕ → List ℕ
 units [] = []
 units (b ∷ bs) = starts b bs ++ units bs
 
--- the last unit where that is a high half, else 0
-abbrev pub trail : List ℕ → ℕ
-trail [] = 0
-trail (u ∷ []) = cond (high u) u 0
+-- the last unit where that is a high half
+abbrev pub trail : List ℕ → Option ℕ
+trail [] = None
+trail (u ∷ []) = cond (high u) (Some u) None
 trail (u ∷ (v ∷ us)) = trail (v ∷ us)
+
+-- whether a unit completes a pair: half is the unit before it, where that is a high half
+abbrev pub pairs : Option ℕ → ℕ → Bool
+pairs None u = false
+pairs (Some half) u = high half && low u
 
 -- bytes that are the WTF-8 of their units are left as they are by this
 abbrev pub recode : List ℕ → List ℕ
 recode bs = wtf8 (units bs)
 
--- where the character begins that a unit completes, and which it is: half is the unit before it where that is a high half
-abbrev pub from_of : ℕ → ℕ → ℕ → ℕ
-from_of half used u = cond (high half && low u) (used - 3) used
+-- where the character begins that a unit completes, and which it is
+abbrev pub from_of : Option ℕ → ℕ → ℕ → ℕ
+from_of half used u = cond (pairs half u) (used - 3) used
 
-abbrev pub code_of : ℕ → ℕ → ℕ
-code_of half u = cond (high half && low u) (join half u) u
+abbrev pub code_of : Option ℕ → ℕ → ℕ
+code_of None u = u
+code_of (Some half) u = cond (high half && low u) (join half u) u

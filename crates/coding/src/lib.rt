@@ -5,7 +5,7 @@ ghost use Rattle.coding.specs.Bench.{Worked, TextWhenPaired, ReadsBack, BenchInB
 
 mod codes;
 
-pub use codes::{completed, encoded, last_half, read_units, size, unit_at, unit_count};
+pub use codes::{completed, encoded, last_half, read_units, unit_at, unit_count};
 
 // The worked examples, when the bytes are text, and that the units are read back;
 // and the literals of the bench, with the bytes of their values.

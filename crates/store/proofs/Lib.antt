@@ -1,5 +1,3 @@
 pub mod Parts
 pub mod Narrows
 pub mod Puts
-pub mod Tables
-pub mod Told

@@ -1,10 +1,8 @@
 -- 16-bit units, in parts and in appended lists. Assumes nothing.
-use Rattle.std.proofs.Common.{◌≡◌, ℕ, zero, suc, ◌+◌, ◌<◌, ◌≤◌, true, ltb, List, [], ◌∷◌, ◌++◌, length, get_or, take, drop, set, sym, refl, subst, arith}
-use Rattle.std.proofs.lemmas.List.{take_more_set, take-take}
+use Rattle.std.proofs.Common.{◌≡◌, ℕ, zero, suc, ◌-◌, ◌<◌, Bool, true, false, cond, ltb, List, [], ◌∷◌, ◌++◌, get_or, take, drop, refl, ap, ◌∙◌}
 use Rattle.std.proofs.lemmas.Bool.{ltb-true, lt-ltb, and_parts, and_from}
 use Rattle.store.specs.Held.{Narrow, AllNarrow}
-use Rattle.store.specs.Cuts.{part, cut, ordered, narrow}
-use Rattle.store.proofs.Parts.{step, final_within, take_drop_swap}
+use Rattle.store.specs.Cuts.{cut, narrow}
 
 pub narrow_append : (us vs : List ℕ) → Narrow us → Narrow vs → Narrow (us ++ vs)
 narrow_append [] vs n m = m
@@ -34,23 +32,15 @@ pub narrow_so : (us : List ℕ) → Narrow us → narrow us ≡ true
 narrow_so [] n = refl
 narrow_so (u ∷ us) n = and_from (ltb u 65536) (narrow us) (lt-ltb u 65536 n.0) (narrow_so us n.1)
 
--- cells used are units, so the parts of them are
-module _ (m : List ℕ) (used : ℕ) (all : Narrow (take used m)) where
-  pub narrow_part : (a b : ℕ) → b ≤ used → Narrow (part m a b)
-  narrow_part a b h =
-      subst Narrow (sym (take_drop_swap a b m)) (narrow_drop a (take b m) (subst Narrow (take-take b used m h) (narrow_take b (take used m) all)))
+-- cells are units, so the parts of them are
+pub narrow_cut : (m : List ℕ) → Narrow m → (s : ℕ) (es : List ℕ) → AllNarrow (cut m s es)
+narrow_cut m n s [] = tt
+narrow_cut m n s (e ∷ es) = (narrow_take (e - s) (drop s m) (narrow_drop s m n), narrow_cut m n e es)
 
-  pub narrow_cut : (s : ℕ) (es : List ℕ) → ordered s es used ≡ true → AllNarrow (cut m s es)
-  narrow_cut s [] h = tt
-  narrow_cut s (e ∷ es) h =
-      let p = step s e es used h in
-      let q = final_within e es used p.1 in
-      (narrow_part s e (omega (arith, q.0, q.1)), narrow_cut e es p.1)
+-- one unit more where there is room, and fewer
+pub narrow_more : (us us' : List ℕ) (u : ℕ) (b : Bool) → u < 65536 → narrow us ≡ true → us' ≡ cond b (us ++ (u ∷ [])) us → narrow us' ≡ true
+narrow_more us us' u true h n e = ap narrow e ∙ narrow_so (us ++ (u ∷ [])) (narrow_append us (u ∷ []) (narrow_is us n) (h, tt))
+narrow_more us us' u false h n e = ap narrow e ∙ n
 
--- one unit more
-pub narrow_put : (m : List ℕ) (used u : ℕ) → used < length m → u < 65536 → narrow (take used m) ≡ true → narrow (take (used + 1) (set m used u)) ≡ true
-narrow_put m used u lt h e =
-    narrow_so (take (used + 1) (set m used u)) (subst Narrow (sym (take_more_set m used u lt)) (narrow_append (take used m) (u ∷ []) (narrow_is (take used m) e) (h, tt)))
-
-pub narrow_less : (m : List ℕ) (v used : ℕ) → v ≤ used → narrow (take used m) ≡ true → narrow (take v m) ≡ true
-narrow_less m v used h e = narrow_so (take v m) (subst Narrow (take-take v used m h) (narrow_take v (take used m) (narrow_is (take used m) e)))
+pub narrow_less : (n : ℕ) (us : List ℕ) → narrow us ≡ true → narrow (take n us) ≡ true
+narrow_less n us e = narrow_so (take n us) (narrow_take n us (narrow_is us e))

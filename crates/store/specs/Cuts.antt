@@ -1,11 +1,11 @@
 -- How lent cells and a table of ends stand for lists, one after another. Assumes nothing.
 use Rattle.std.specs.Prelude.{ℕ, ◌+◌, ◌-◌, Bool, true, ◌&&◌, List, [], ◌∷◌, take, drop, nat_le, nat_lt, slice_set}
 
-abbrev pub part : List ℕ → ℕ → ℕ → List ℕ
+abbrev pub part : {T : Type 0} → List T → ℕ → ℕ → List T
 part m a b = take (b - a) (drop a m)
 
 -- the lists that end at es, the first from s
-abbrev pub cut : List ℕ → ℕ → List ℕ → List (List ℕ)
+abbrev pub cut : {T : Type 0} → List T → ℕ → List ℕ → List (List T)
 cut m s [] = []
 cut m s (e ∷ es) = part m s e ∷ cut m e es
 

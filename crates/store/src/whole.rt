@@ -16,6 +16,7 @@ pub fn keep<S: ValueStore>(store: &mut S, units: &[u16]) -> Result<usize, Refusa
     }
     store.drop_open();
     for unit in units {
+        // no `?`, which would leave the units put so far in the open value
         if let Err(refusal) = store.put(*unit) {
             store.drop_open();
             return Err(refusal);

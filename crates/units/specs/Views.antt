@@ -1,18 +1,18 @@
 -- A store of units: its lent cells and places, where its finished values end, and what it holds. Assumes nothing.
-use Rattle.std.specs.Prelude.{ℕ, List, take}
+use Rattle.std.specs.Prelude.{ℕ, List}
 use Rattle.store.specs.Held.{Held}
-use Rattle.store.specs.Cuts.{final}
+use Rattle.cuts.specs.Lists as cuts
 use Rattle.units.specs.declared.Units.{Units}
 use Rattle.units.specs.Meaning.{held_of}
 
 abbrev pub cells : Units → List ℕ
-cells s = s.memory.now
+cells s = cuts.memory s.cuts
 
 abbrev pub ends : Units → List ℕ
-ends s = s.ends.now
+ends s = cuts.table s.cuts
 
 abbrev pub finished : Units → ℕ
-finished s = final 0 (take s.count (ends s))
+finished s = cuts.finished s.cuts
 
 abbrev pub meaning : Units → Held
-meaning s = held_of (cells s) (ends s) s.count s.used
+meaning s = held_of s.cuts

@@ -1,9 +1,7 @@
-ghost use Rattle.std.specs.Prelude.{◌≡◌, ◌<◌, ◌≤◌, [], length, take, if◌then◌else◌, Ok, Err, MatchResult, slice_index_or};
+ghost use Rattle.std.specs.Prelude.{◌≡◌, ◌<◌, ◌≤◌, [], length, if◌then◌else◌, Ok, Err, MatchResult, slice_index_or};
 ghost use Rattle.refusals.specs.Numbers.{number_of, numbered};
-ghost use Rattle.store.specs.Held.{fits, with_unit, has_place, closed, dropped, overlaid, unit_told};
-ghost use Rattle.store.specs.Cuts.{final};
+ghost use Rattle.store.specs.Held.{fits, with_unit, has_place, closed, dropped, unit_told};
 ghost use Rattle.store.specs.Leaves.{PutLeaves, CloseLeaves, LeavesAll};
-ghost use Rattle.units.specs.Meaning.{held_of};
 ghost use Rattle.units.specs.Views.{cells, ends, finished, meaning};
 ghost use Rattle.units.specs.Law.{units_lawful};
 
@@ -14,7 +12,7 @@ use store::ValueStore;
 impl<'a> ValueStore for Units<'a> {
     ghost weight = { length };
 
-    ghost held = { λ s. held_of s.memory.now s.ends.now s.count s.used };
+    ghost held = { meaning };
 
     ghost lawful = { units_lawful };
 
@@ -22,51 +20,38 @@ impl<'a> ValueStore for Units<'a> {
         ensures answer { numbered result ≡ (if fits length (meaning self.old) unit then Ok tt else Err 12) }
         ensures after { meaning self.new ≡ (if fits length (meaning self.old) unit then with_unit (meaning self.old) unit else meaning self.old) }
         ensures leaves { PutLeaves (fits length (meaning self.old) unit) (finished self.old) (cells self.old) (cells self.new) (ends self.old) (ends self.new) }
-        ensures lent { (self.new.memory.ghost_name ≡ self.old.memory.ghost_name) × (self.new.ends.ghost_name ≡ self.old.ends.ghost_name) }
+        ensures lent { (self.new.cuts.cells.memory.ghost_name ≡ self.old.cuts.cells.memory.ghost_name) × (self.new.cuts.ends.memory.ghost_name ≡ self.old.cuts.ends.memory.ghost_name) }
     {
-        let used = self.used;
-        if used >= self.capacity() {
-            return Err(Refusal::NoCapacity);
-        }
-        self.memory[used] = unit;
-        self.used = used + 1;
-        Ok(())
+        self.cuts.push(unit)
     }
 
     fn close(&mut self) -> Result<usize, Refusal>
         ensures answer { numbered result ≡ (if has_place (meaning self.old) then Ok (length (meaning self.old).values) else Err 11) }
         ensures after { meaning self.new ≡ (if has_place (meaning self.old) then closed (meaning self.old) else meaning self.old) }
-        ensures leaves { CloseLeaves (has_place (meaning self.old)) self.old.count (cells self.old) (cells self.new) (ends self.old) (ends self.new) }
-        ensures lent { (self.new.memory.ghost_name ≡ self.old.memory.ghost_name) × (self.new.ends.ghost_name ≡ self.old.ends.ghost_name) }
+        ensures leaves { CloseLeaves (has_place (meaning self.old)) (length (meaning self.old).values) (cells self.old) (cells self.new) (ends self.old) (ends self.new) }
+        ensures lent { (self.new.cuts.cells.memory.ghost_name ≡ self.old.cuts.cells.memory.ghost_name) × (self.new.cuts.ends.memory.ghost_name ≡ self.old.cuts.ends.memory.ghost_name) }
     {
-        let n = self.count;
-        if n >= self.places() {
-            return Err(Refusal::NoPlace);
-        }
-        self.ends[n] = self.used;
-        self.count = n + 1;
-        Ok(n)
+        self.cuts.close()
     }
 
     fn drop_open(&mut self)
         ensures after { meaning self.new ≡ dropped (meaning self.old) }
         ensures leaves { LeavesAll (cells self.old) (cells self.new) (ends self.old) (ends self.new) }
-        ensures lent { (self.new.memory.ghost_name ≡ self.old.memory.ghost_name) × (self.new.ends.ghost_name ≡ self.old.ends.ghost_name) }
+        ensures lent { (self.new.cuts.cells.memory.ghost_name ≡ self.old.cuts.cells.memory.ghost_name) × (self.new.cuts.ends.memory.ghost_name ≡ self.old.cuts.ends.memory.ghost_name) }
     {
-        let start = self.open_start();
-        self.used = start;
+        self.cuts.drop_open();
     }
 
     fn count(&self) -> usize {
-        self.count
+        self.cuts.count()
     }
 
     fn places(&self) -> usize {
-        self.ends.len().min(4096)
+        self.cuts.places()
     }
 
     fn capacity(&self) -> usize {
-        self.memory.len().min(1048576)
+        self.cuts.capacity()
     }
 
     fn value_len(&self, n: usize) -> Result<usize, Refusal> {
@@ -93,7 +78,7 @@ impl<'a> ValueStore for Units<'a> {
         if many > out.len() {
             return Err(Refusal::IndexPastEnd);
         }
-        copy_units(units, out);
+        out[..many].copy_from_slice(units);
         Ok(many)
     }
 }
@@ -103,54 +88,20 @@ impl<'a> Units<'a> {
     pub fn units_of(&self, n: usize) -> Result<&[u16], Refusal>
         ensures { MatchResult result (λ units. (n < length (meaning self.now).values) × (units.now ≡ slice_index_or (meaning self.now).values n [])) (λ e. (length (meaning self.now).values ≤ n) × (number_of e ≡ 5)) }
     {
-        if n >= self.count {
-            return Err(Refusal::IndexPastEnd);
-        }
-        let from = start_of(self.ends, n);
-        let to = self.ends[n];
-        Ok(&self.memory[from..to])
+        self.cuts.part(n)
     }
 
     // The units of the open value.
     pub fn open_units(&self) -> &[u16]
         ensures { result.now ≡ (meaning self.now).draft }
     {
-        &self.memory[self.open_start()..self.used]
+        self.cuts.open()
     }
-
-    // Where the open value begins.
-    fn open_start(&self) -> usize
-        ensures { result ≡ finished self.now }
-    {
-        start_of(self.ends, self.count)
-    }
-}
-
-// Where value `n` begins: at the end of the one before it.
-fn start_of(ends: &[usize], n: usize) -> usize
-    requires { n ≤ length ends.now }
-    ensures { result ≡ final 0 (take n ends.now) }
-{
-    if n == 0 { 0 } else { ends[n - 1] }
 }
 
 // Unit `i` of some units.
 fn unit_in(units: &[u16], i: usize) -> Result<u16, Refusal>
     ensures { numbered result ≡ unit_told units.now i }
 {
-    if i < units.len() {
-        Ok(units[i])
-    } else {
-        Err(Refusal::IndexPastEnd)
-    }
-}
-
-// Writes `units` to the front of `out`.
-fn copy_units(units: &[u16], out: &mut [u16])
-    requires { length units.now ≤ length out.old }
-    ensures { out.new ≡ overlaid units.now out.old }
-{
-    for (i, unit) in units.iter().enumerate() {
-        out[i] = *unit;
-    }
+    units.get(i).copied().ok_or(Refusal::IndexPastEnd)
 }

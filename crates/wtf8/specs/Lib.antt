@@ -1,4 +1,3 @@
 pub mod Meaning
 pub mod Views
-pub mod Steps
 pub mod Law

@@ -1,11 +1,9 @@
-use Rattle.std.proofs.Common.{refl}
-use Rattle.units.specs.Steps.{drop_is, drop_kept}
+use Rattle.std.proofs.Common.{ap, ◌∙◌}
+use Rattle.store.specs.Cuts.{narrow}
+use Rattle.store.proofs.Narrows.{narrow_less}
+use Rattle.cuts.specs.Lists.{used}
+use Rattle.units.specs.Views.{finished}
 use Rattle.units.proofs.acts.UnitsValueStore.drop_open.Goals as goal
 
 pub invariant_of-self : goal.invariant_of-self
-invariant_of-self c =
-    let k = drop_kept c.args.self.now c.open_start-start.result c.open_start-start.ensures in
-    record { few = k.0; light = k.1.0; rising = k.1.1.0; small = k.1.1.1.0 }
-
-pub returns : goal.returns
-returns c = record { after = drop_is c.args.self.now _ c.open_start-start.ensures; leaves = record { same_cells = refl; same_places = refl }; lent = (refl, refl) }
+invariant_of-self c = let s = c.args.self.now in record { small = ap narrow c.drop_open.ensures.cells ∙ narrow_less (finished s) (used s.cuts) s.small }

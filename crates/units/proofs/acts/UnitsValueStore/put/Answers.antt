@@ -1,22 +1,25 @@
-use Rattle.std.proofs.Common.{◌<◌, min, length, sym, refl, ◌∙◌, arith}
-use Rattle.std.proofs.lemmas.Bool.{cond-true, cond-false}
-use Rattle.units.specs.Views.{cells}
-use Rattle.units.specs.Steps.{full, free, put_is, put_kept, put_leaves}
+use Rattle.std.proofs.Common.{cond, Ok, Err, sym, ap, ◌∙◌, subst}
+use Rattle.store.specs.Held.{with_unit}
+use Rattle.store.specs.Leaves.{PutLeaves}
+use Rattle.store.proofs.Narrows.{narrow_more}
+use Rattle.cuts.specs.Lists.{used, memory, table, has_cell}
+use Rattle.units.specs.Views.{cells, ends, finished, meaning}
+use Rattle.units.proofs.Steps.{fits_is, held_with}
 use Rattle.units.proofs.acts.UnitsValueStore.put.Goals as goal
 
-pub returns-then-used-capacity : goal.returns-then-used-capacity
-returns-then-used-capacity c =
-    let f = full c.args.self.now c.args.unit (omega (arith, c.capacity.ensures, c.if-used-capacity.true)) in
-    record { answer = sym (cond-false _ _ _ f); after = sym (cond-false _ _ _ f); leaves = record { same_places = refl; refused = λ _. refl; same_values = refl; past = refl }; lent = (refl, refl) }
-
 pub invariant_of-self : goal.invariant_of-self
-invariant_of-self c =
-    let k = put_kept c.args.self.now c.args.unit (omega (arith, c.capacity.ensures, c.if-used-capacity.false)) c.ranges.unit.fits in
-    record { few = k.0; light = k.1.0; rising = k.1.1.0; small = k.1.1.1.0 }
+invariant_of-self c = let s = c.args.self.now in record { small = narrow_more (used s.cuts) _ c.args.unit (has_cell s.cuts) c.ranges.unit.fits s.small c.push.ensures.cells }
 
-pub returns : goal.returns
-returns c =
+pub returns-clause-answer : goal.returns-clause-answer
+returns-clause-answer c = c.push.ensures.answer ∙ ap (λ b. cond b (Ok tt) (Err 12)) (sym (fits_is c.args.self.now.cuts c.args.unit))
+
+pub returns-clause-after : goal.returns-clause-after
+returns-clause-after c =
     let s = c.args.self.now in
-    let room : s.used < min (length (cells s)) 1048576 = omega (arith, c.capacity.ensures, c.if-used-capacity.false) in
-    let f = free s c.args.unit room in
-    record { answer = sym (cond-true _ _ _ f); after = put_is s c.args.unit room ∙ sym (cond-true _ _ _ f); leaves = put_leaves s c.args.unit room; lent = (refl, refl) }
+    let e = c.push.ensures in
+    held_with s.cuts c.push.new.self c.args.unit (has_cell s.cuts) e.lists e.draft e.places e.capacity ∙ ap (λ b. cond b (with_unit (meaning s) c.args.unit) (meaning s)) (sym (fits_is s.cuts c.args.unit))
+
+pub returns-clause-leaves : goal.returns-clause-leaves
+returns-clause-leaves c =
+    let s = c.args.self.now in
+    subst (λ b. PutLeaves b (finished s) (cells s) (memory c.push.new.self) (ends s) (table c.push.new.self)) (sym (fits_is s.cuts c.args.unit)) c.push.ensures.leaves

@@ -1,0 +1,57 @@
+-- Cells put behind some of the open list, one after another. Assumes nothing.
+use Rattle.std.proofs.Common.{◌≡◌, ℕ, ◌+◌, ◌≤◌, min, List, [], ◌++◌, length, take, drop, sym, ap, ◌∙◌, ⊎_elim, arith}
+use Rattle.std.proofs.lemmas.List.{length-take, take_all, drop-take, append-nil}
+use Rattle.std.proofs.lemmas.Bool.{cases_lt}
+use Rattle.store.specs.Cuts.{cut, final}
+use Rattle.store.proofs.Parts.{cut_length}
+use Rattle.cuts.proofs.Cutting.{open_length, cut_less}
+use Rattle.cuts.specs.declared.lists.Cuts.{Cuts}
+use Rattle.cuts.specs.Lists.{memory, table, used, marks, finished, lists, opened, capacity_of, places_of}
+
+module _ {T : Type 0} where
+  -- c' is c with another open list
+  pub record Behind (c c' : Cuts T) (us : List T) : Type 0 where
+    pub draft : opened c' ≡ us
+    pub same_marks : marks c' ≡ marks c
+    pub same_lists : lists c' ≡ lists c
+    pub capacity : capacity_of c' ≡ capacity_of c
+    pub places : places_of c' ≡ places_of c
+    pub same_table : table c' ≡ table c
+    pub front : take (finished c) (memory c') ≡ take (finished c) (memory c)
+    pub past : drop 1048576 (memory c') ≡ drop 1048576 (memory c)
+
+  pub used_of : (c : Cuts T) → finished c + length (opened c) ≡ length (used c)
+  used_of c = open_length (used c) (marks c) c.rising
+
+  -- there are no more cells used than there is room for
+  pub used_in : (c : Cuts T) → length (used c) ≤ capacity_of c
+  used_in c = let l = length-take c.cells.used (memory c) in let f = c.cells.fits in omega arith
+
+  -- nor more finished lists
+  pub lists_in : (c : Cuts T) → length (lists c) ≤ places_of c
+  lists_in c = let l = length-take c.ends.used (table c) in let f = c.ends.fits in let n = cut_length (used c) 0 (marks c) in omega arith
+
+  -- no more cells are kept than there are
+  pub take_most : (k : ℕ) (us : List T) → take (min (length us) k) us ≡ take k us
+  take_most k us = ⊎_elim
+      (λ lt. let e : min (length us) k ≡ length us = omega arith in ap (λ n. take n us) e ∙ take_all (length us) us (omega arith) ∙ sym (take_all k us (omega arith)))
+      (λ ge. let e : min (length us) k ≡ k = omega arith in ap (λ n. take n us) e)
+      (cases_lt (length us) k)
+
+  -- only the cells that are kept
+  pub behind_none : (c c' : Cuts T) (k from : ℕ) → from ≡ finished c + min (length (opened c)) k → marks c' ≡ marks c → used c' ≡ take from (used c) → memory c' ≡ memory c → table c' ≡ table c → Behind c c' (take k (opened c) ++ [])
+  behind_none c c' k from f m u e t = record {
+    draft =
+        (λ j. drop (final 0 (m j)) (u j))
+        ∙ ap (λ n. drop (finished c) (take n (used c))) f
+        ∙ drop-take (finished c) (min (length (opened c)) k) (used c)
+        ∙ take_most k (opened c)
+        ∙ sym (append-nil (take k (opened c)));
+    same_marks = m;
+    same_lists = (λ j. cut (u j) 0 (m j)) ∙ cut_less (used c) (marks c) c.rising from (omega arith);
+    capacity = ap (λ t. min (length t) 1048576) e;
+    places = ap (λ t. min (length t) 4096) t;
+    same_table = t;
+    front = ap (take (finished c)) e;
+    past = ap (drop 1048576) e;
+  }
