@@ -1,4 +1,5 @@
 -- The escape read behind a backslash, as steps of a reading. Assumes nothing.
+use Rattle.std.proofs.lemmas.List.{append-nil}
 use Rattle.std.proofs.Common.{◌≡◌, ℕ, ◌<◌, Bool, true, false, ◌||◌, List, [], ◌∷◌, ◌++◌, drop, Some, None, Option, Ok, Err, Result, sym, refl, ap, ◌∙◌, subst, inl, inr}
 use Rattle.grammar.specs.Text.{Text, Spot, over, char}
 use Rattle.grammar.specs.Utf8.{utf8}
@@ -16,10 +17,6 @@ use Rattle.escapes.specs.Places.{At}
 use Rattle.escapes.specs.Escapes.{behind_rule, Alone, Joined, Wrong, Behind, Part, is_template, units_told, faults_told, EscapeRead, listed, reached}
 use Rattle.escapes.specs.declared.unicode.Given.{Given}
 use Rattle.escapes.specs.declared.unicode.Invalid.{Invalid}
-
-pub append-nil : {A : Type 0} (xs : List A) → xs ++ [] ≡ xs
-append-nil [] = refl
-append-nil (x ∷ xs) = ap (λ z. x ∷ z) (append-nil xs)
 
 joined_nil : (u : Option (List ℕ)) → joined u (Some []) ≡ u
 joined_nil None = refl

@@ -14,7 +14,8 @@ use Rattle.escapes.specs.Escapes.{Part, listed}
 use Rattle.escapes.specs.declared.unicode.Given.{Given}
 use Rattle.escapes.specs.declared.unicode.Units.{Units}
 use Rattle.escapes.specs.declared.unicode.Units.TheVariants.{Nothing, One, Two}
-use Rattle.escapes.proofs.Parts.{part_join, append-nil}
+use Rattle.std.proofs.lemmas.List.{append-nil}
+use Rattle.escapes.proofs.Parts.{part_join}
 use Rattle.escapes.proofs.Looks.{stands_by, stands_moves}
 use Rattle.pieces.specs.Plain.{spelt, utf16s}
 use Rattle.pieces.specs.Pieces.{scan_of, body_of, StopRead, PieceRead}

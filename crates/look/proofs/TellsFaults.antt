@@ -10,7 +10,8 @@ use Rattle.grammar.specs.Value.{joined}
 use Rattle.grammar.specs.Outcome as outcome
 use Rattle.tokens.specs.Grammar.{recorded, fault_of}
 use Rattle.escapes.specs.Escapes.{Part}
-use Rattle.escapes.proofs.Parts.{part_join, no_step, append-nil}
+use Rattle.std.proofs.lemmas.List.{append-nil}
+use Rattle.escapes.proofs.Parts.{part_join, no_step}
 use Rattle.pieces.specs.Plain.{Plain, spelt, utf16s}
 use Rattle.pieces.specs.Pieces.{scan_of, body_of, ending_of, Ends}
 use Rattle.pieces.specs.declared.piece.Opening.{Opening}

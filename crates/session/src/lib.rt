@@ -29,7 +29,7 @@ pub struct Session<'a> {
     faults: FaultList<'a>,
 }
 
-// One of the calls.
+// One of the calls. Store and text are handed to each beside it, by a rule of the project: a session owns neither.
 #[derive(Clone, Copy)]
 pub enum Call {
     Scan(Scan, usize),
@@ -52,6 +52,7 @@ pub enum Answer {
 
 impl<'a> Session<'a> {
     // The making: all slots free, no fault, and the store's open value dropped. No slot and no record is written.
+    // The three pieces of memory are lent one by one, as C lends them.
     pub fn new<S: ValueStore>(
         store: &mut S,
         strings: &'a mut [Slot<usize>],
