@@ -315,10 +315,19 @@ module _ (s : Wtf8) where
           capacity = min (length_laid (cells s) (from_of half (used s) u) (encode (code_of half u)) j) 1048576;
         }
 
+        pub put_rising : ordered 0 (take (count s) (ends s)) to ≡ true
+        put_rising = ordered_up 0 (take (count s) (ends s)) (from_of half (used s) u) to (omega arith) rising_from
+
+        pub put_whole : map recode (closed_bytes after (ends s) (count s)) ≡ closed_bytes after (ends s) (count s)
+        put_whole = whole_by _ same_closed
+
+        pub put_fresh : recode (open_bytes after (ends s) (count s) to) ≡ open_bytes after (ends s) (count s) to
+        put_fresh = ap wtf8 next_units ∙ sym next_open
+
         pub put_kept : Kept after (ends s) (count s) to
         put_kept =
             let e = length_laid (cells s) (from_of half (used s) u) (encode (code_of half u)) in
-            (s.cuts.ends.fits, (omega arith, (ordered_up 0 (take (count s) (ends s)) (from_of half (used s) u) to (omega arith) rising_from, (whole_by _ same_closed, (ap wtf8 next_units ∙ sym next_open, tt)))))
+            (s.cuts.ends.fits, (omega arith, (put_rising, (put_whole, (put_fresh, tt)))))
 
         pub put_leaves : PutLeaves (fits weight (meaning s) u) (finished s) (cells s) after (ends s) (ends s)
         put_leaves =
