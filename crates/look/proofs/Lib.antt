@@ -5,3 +5,4 @@ pub mod Looking
 pub mod Running
 pub mod Spelt
 pub mod TellsFaults
+pub mod Standing
