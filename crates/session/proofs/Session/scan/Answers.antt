@@ -1,4 +1,4 @@
-use Rattle.std.proofs.Common.{◌≤◌, arith}
+use Rattle.std.proofs.Common.{◌≤◌, arith, rules}
 use Rattle.std.proofs.lemmas.Result.{err_from_is_err_and}
 use Rattle.store.specs.Held.{weighed}
 use Rattle.session.specs.Scans.{bytes_of}
@@ -25,9 +25,9 @@ returns-in_err-keep g c =
     let sound = s.lawful.sound c.args.store.now in
     let light : weighed s.weight h.values ≤ h.capacity = omega (arith, sound.light) in
     let p = err_from_is_err_and c.from_residual-in_err-keep.result c.from_residual-in_err-keep.ensures.1 in
-    passed_on s.weight (bytes_of c.args.text) c.args.scan c.args.start c.args.self.now h c.from_residual-in_err-keep.result p.0 _ c.keep.new.self (s.held c.keep.new.store) p.1 p.2
+    passed_on s.weight (bytes_of c.args.text) c.args.scan c.args.start c.args.self.now h c.from_residual-in_err-keep.result p.0 _ _ _ p.1 p.2
     (undone s.weight s.lawful.nothing (bytes_of c.args.text) c.args.scan c.args.start c.args.self.now h c.in_ok-seen.seen c.in_ok-seen.ensures
-    c.free_records.result c.free_records.ensures c.if-seen-free_records.false light c.keep.new.self (s.held c.keep.new.store) _ c.keep.result c.in_err-keep.was c.keep.ensures)
+    c.free_records.result c.free_records.ensures c.if-seen-free_records.false light _ _ _ _ c.in_err-keep.was (search rules))
 
 pub returns : goal.returns
 returns g c =
@@ -36,4 +36,4 @@ returns g c =
     let sound = s.lawful.sound c.args.store.now in
     let light : weighed s.weight h.values ≤ h.capacity = omega (arith, sound.light) in
     done s.weight s.lawful.nothing (bytes_of c.args.text) c.args.scan c.args.start c.args.self.now h c.in_ok-seen.seen c.in_ok-seen.ensures
-    c.free_records.result c.free_records.ensures c.if-seen-free_records.false light c.keep.new.self (s.held c.keep.new.store) _ c.record.ensures c.keep.result c.in_ok-keep.was c.keep.ensures
+    c.free_records.result c.free_records.ensures c.if-seen-free_records.false light _ _ _ c.record.ensures _ c.in_ok-keep.was (search rules)
