@@ -198,9 +198,7 @@ fn low_half(cursor: Cursor<'_>, place: &mut Place) -> Option<u16>
     if !trial.take_unicode_prefix() {
         return None;
     }
-    let Ok((low, to)) = hex_digits(moved(cursor, trial.at()), 4) else {
-        return None;
-    };
+    let (low, to) = hex_digits(moved(cursor, trial.at()), 4).ok()?;
     if !(0xDC00..=0xDFFF).contains(&low) {
         return None;
     }
@@ -244,6 +242,9 @@ fn unicode_escape(cursor: Cursor<'_>, in_template: bool) -> Result<Given, Invali
     }
 }
 
+// the largest first digit of three octal digits
+const FIRST_OF_THREE: u8 = 3;
+
 // An octal digit, with a second one behind it, and a third if the first is 0 to 3. A zero has a decimal digit behind it.
 fn octal_escape(cursor: Cursor<'_>, first: u8) -> Given
     requires { (Digit octal_digits cursor.bytes.now cursor.place.at first) × ((first < 8) × ((first ≡ 0 → DecimalAt cursor.bytes.now (cursor.place.at + 1) true))) }
@@ -257,7 +258,7 @@ fn octal_escape(cursor: Cursor<'_>, first: u8) -> Given
         };
     };
     let two = u16::from(first * 8 + second);
-    if !(0..=3).contains(&first) {
+    if first > FIRST_OF_THREE {
         return Given {
             units: Units::One(two),
             next: at + 2,
