@@ -85,7 +85,7 @@ fn lead_of(c: char, digit_behind: bool, in_template: bool) -> Lead
     }
 }
 
-// A character in UTF-16. Each `as` takes a value below 10000, where `u16::try_from` would answer a Result.
+// A character in UTF-16. Each `as` takes a value below 0x10000, where `u16::try_from` would answer a Result.
 pub fn units_of(c: char) -> Units
     ensures { listed result ≡ utf16 c }
 {
