@@ -49,7 +49,7 @@ pub struct Token {
 }
 
 impl Token {
-    // What it has, in a word.
+    // Its mark, in a word.
     pub fn mark(self) -> &'static str
         ensures { result.now ≡ mark_of self.escaped }
     {
