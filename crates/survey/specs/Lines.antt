@@ -1,6 +1,7 @@
 -- How a report tells the stops of a set. Assumes nothing.
 use Rattle.std.specs.Prelude.{ℕ, List, [], ◌++◌, Some, None, Option, codes, decimal}
 use Rattle.survey.specs.declared.survey.Stops.{Stops}
+use Rattle.survey.specs.declared.survey.Survey.{Survey}
 
 -- the place of the first stop, where there is one
 abbrev pub first_words : Option ℕ → List ℕ
@@ -10,3 +11,13 @@ first_words (Some place) = codes " first " ++ decimal place
 -- how many places stop, and the first
 abbrev pub stops_words : Stops → List ℕ
 stops_words s = decimal s.count ++ first_words s.first
+
+-- a line of a name and what is told of it
+abbrev pub line : List ℕ → List ℕ → List ℕ
+line name told = name ++ codes " " ++ told ++ codes "\n"
+
+-- the sizes, and the stops of each set
+abbrev pub survey_words : Survey → List ℕ
+survey_words s =
+    line (codes "bytes") (decimal s.bytes) ++ line (codes "characters") (decimal s.chars) ++ line (codes "double") (stops_words s.double) ++ line (codes "single") (stops_words s.single)
+    ++ line (codes "template") (stops_words s.template)
