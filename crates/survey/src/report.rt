@@ -1,6 +1,6 @@
 // The lines of a report.
 ghost use Rattle.std.specs.Prelude.{Some};
-ghost use Rattle.survey.specs.Lines.{stops_words, survey_words};
+ghost use Rattle.survey.specs.Lines.{stops_words, survey_words, report_words};
 
 use crate::survey::{Stops, Survey};
 use refusals::Refusal;
@@ -10,6 +10,8 @@ use std::fmt;
 pub struct Report(pub Result<Survey, Refusal>);
 
 impl fmt::Display for Report {
+    ghost output = { λ report. Some (report_words report) };
+
     fn fmt<W: fmt::Write>(&self, f: &mut fmt::Formatter<W>) -> fmt::Result {
         match self.0 {
             Ok(survey) => write!(f, "{survey}"),
