@@ -34,12 +34,6 @@ unicode_units (CodePoint c) = utf16 c
 unicode_units (SurrogatePair c) = utf16 c
 unicode_units (LoneSurrogate u) = u ∷ []
 
--- a code point, and a surrogate, are in range
-abbrev pub Sound : UnicodeEscape → Type 0
-Sound (CodePoint c) = c < 1114112
-Sound (SurrogatePair c) = c < 1114112
-Sound (LoneSurrogate u) = u < 65536
-
 -- the place reached
 abbrev pub reached : Result Given Invalid → ℕ
 reached (Ok g) = g.next

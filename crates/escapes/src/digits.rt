@@ -76,12 +76,10 @@ pub(crate) fn hex_digits(cursor: Cursor<'_>, count: usize) -> Result<(u16, usize
 {
     let mut digits = HexDigits { cursor };
     let mut value: u16 = 0;
-    for _i in 0..count {
-        let Some(digit) = digits.next() else {
-            return Err(Invalid {
-                next: digits.place(),
-            });
-        };
+    for _ in 0..count {
+        let digit = digits.next().ok_or(Invalid {
+            next: digits.place(),
+        })?;
         value = value * 16 + u16::from(digit);
     }
     Ok((value, digits.place()))
@@ -99,9 +97,7 @@ pub(crate) fn code_point(cursor: Cursor<'_>) -> Result<(u32, usize), NoCodePoint
     ensures { CodePointRead cursor.entry.bytes.now cursor.entry.place.at result }
 {
     let mut digits = HexDigits { cursor };
-    let Some(first) = digits.next() else {
-        return Err(NoCodePoint::Missing);
-    };
+    let first = digits.next().ok_or(NoCodePoint::Missing)?;
     let mut value = u32::from(first);
     while let Some(digit) = digits.next() {
         value = value * 16 + u32::from(digit);

@@ -12,9 +12,7 @@ pub(crate) fn moved(cursor: Cursor<'_>, at: usize) -> Cursor<'_>
     requires { IsCharBoundary cursor.bytes.now at }
     ensures { (result.bytes.now ≡ cursor.entry.bytes.now) × (result.place.at ≡ at) }
 {
-    let mut moved = cursor;
-    moved.move_to(at);
-    moved
+    cursor.moved(at)
 }
 
 // A cursor some bytes further on.

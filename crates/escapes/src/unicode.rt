@@ -6,7 +6,7 @@ ghost use Rattle.grammar.specs.Production.{octal_digits};
 ghost use Rattle.grammar.specs.Value.{utf16};
 ghost use Rattle.escapes.specs.Places.{At, Here, Stands};
 ghost use Rattle.escapes.specs.Digits.{Digit, DecimalAt};
-ghost use Rattle.escapes.specs.Escapes.{listed, unicode_units, Sound, Leads, Behind, Low, EscapeRead};
+ghost use Rattle.escapes.specs.Escapes.{listed, unicode_units, Leads, Behind, Low, EscapeRead};
 
 use crate::digits::{NoCodePoint, code_point, decimal_at, hex_digits, octal_at, skip_hex};
 use crate::places::{ahead, moved, stands_at};
@@ -35,13 +35,12 @@ pub struct Invalid {
     pub next: usize,
 }
 
-// A Unicode escape: a code point that is no surrogate, one that two halves make, or a surrogate alone. Each is its number,
-// in a range that clauses name, since an enum has no ghost field.
+// A Unicode escape: a code point that is no surrogate, one that two halves make, or a surrogate alone.
 #[derive(Clone, Copy)]
 pub(crate) enum UnicodeEscape {
-    CodePoint(u32),
-    SurrogatePair(u32),
-    LoneSurrogate(u32),
+    CodePoint(char),
+    SurrogatePair(char),
+    LoneSurrogate(u16),
 }
 
 // What the character behind a backslash begins.
@@ -59,7 +58,8 @@ pub(crate) enum Lead {
     Other,
 }
 
-// What a character begins: a match with literal cases and guards, the project's form for this choice.
+// What a character begins: a match with literal cases and guards, the project's form for this choice. The `as` is of a digit
+// of ASCII, where `u8::try_from` would answer a Result.
 fn lead_of(c: char, digit_behind: bool, in_template: bool) -> Lead
     ensures { Leads c digit_behind in_template result }
 {
@@ -85,22 +85,15 @@ fn lead_of(c: char, digit_behind: bool, in_template: bool) -> Lead
     }
 }
 
-// A character in UTF-16.
+// A character in UTF-16. Each `as` takes a value below 0x10000, where `u16::try_from` would answer a Result.
 pub fn units_of(c: char) -> Units
     ensures { listed result ≡ utf16 c }
 {
-    code_units(u32::from(c))
-}
-
-// A code point in UTF-16.
-fn code_units(c: u32) -> Units
-    requires { c < 1114112 }
-    ensures { listed result ≡ utf16 c }
-{
-    if c < 0x10000 {
-        Units::One(c as u16)
+    let value = u32::from(c);
+    if value < 0x10000 {
+        Units::One(value as u16)
     } else {
-        let over = c - 0x10000;
+        let over = value - 0x10000;
         Units::Two(
             (0xD800 + over / 0x400) as u16,
             (0xDC00 + over % 0x400) as u16,
@@ -111,31 +104,30 @@ fn code_units(c: u32) -> Units
 // The code point that a high and a low half make.
 fn pair_of(high: u16, low: u16) -> UnicodeEscape
     requires { (55296 ≤ high) × ((high ≤ 56319) × ((56320 ≤ low) × (low ≤ 57343))) }
-    ensures { (unicode_units result ≡ high ∷ low ∷ []) × Sound result }
+    ensures { unicode_units result ≡ high ∷ low ∷ [] }
 {
-    UnicodeEscape::SurrogatePair(
-        u32::from(high - 0xD800) * 0x400 + u32::from(low - 0xDC00) + 0x10000,
-    )
+    let value = u32::from(high - 0xD800) * 0x400 + u32::from(low - 0xDC00) + 0x10000;
+    UnicodeEscape::SurrogatePair(unsafe { char::from_u32_unchecked(value) })
 }
 
 // One number alone, a surrogate or not.
 fn one_of(value: u32) -> UnicodeEscape
     requires { value < 1114112 }
-    ensures { (unicode_units result ≡ utf16 value) × Sound result }
+    ensures { unicode_units result ≡ utf16 value }
 {
-    match value {
-        0xD800..=0xDFFF => UnicodeEscape::LoneSurrogate(value),
-        _ => UnicodeEscape::CodePoint(value),
+    match char::from_u32(value) {
+        Some(c) => UnicodeEscape::CodePoint(c),
+        // what is no `char` in this range is a surrogate, which fits
+        None => UnicodeEscape::LoneSurrogate(value as u16),
     }
 }
 
 fn unicode_units(escape: UnicodeEscape) -> Units
-    requires { Sound escape }
     ensures { listed result ≡ unicode_units escape }
 {
     match escape {
-        UnicodeEscape::CodePoint(c) | UnicodeEscape::SurrogatePair(c) => code_units(c),
-        UnicodeEscape::LoneSurrogate(unit) => Units::One(unit as u16),
+        UnicodeEscape::CodePoint(c) | UnicodeEscape::SurrogatePair(c) => units_of(c),
+        UnicodeEscape::LoneSurrogate(unit) => Units::One(unit),
     }
 }
 
@@ -198,9 +190,7 @@ fn low_half(cursor: Cursor<'_>, place: &mut Place) -> Option<u16>
     if !trial.take_unicode_prefix() {
         return None;
     }
-    let Ok((low, to)) = hex_digits(moved(cursor, trial.at()), 4) else {
-        return None;
-    };
+    let (low, to) = hex_digits(moved(cursor, trial.at()), 4).ok()?;
     if !(0xDC00..=0xDFFF).contains(&low) {
         return None;
     }
@@ -244,6 +234,9 @@ fn unicode_escape(cursor: Cursor<'_>, in_template: bool) -> Result<Given, Invali
     }
 }
 
+// the largest first digit of three octal digits
+const FIRST_OF_THREE: u8 = 3;
+
 // An octal digit, with a second one behind it, and a third if the first is 0 to 3. A zero has a decimal digit behind it.
 fn octal_escape(cursor: Cursor<'_>, first: u8) -> Given
     requires { (Digit octal_digits cursor.bytes.now cursor.place.at first) × ((first < 8) × ((first ≡ 0 → DecimalAt cursor.bytes.now (cursor.place.at + 1) true))) }
@@ -257,7 +250,7 @@ fn octal_escape(cursor: Cursor<'_>, first: u8) -> Given
         };
     };
     let two = u16::from(first * 8 + second);
-    if !(0..=3).contains(&first) {
+    if first > FIRST_OF_THREE {
         return Given {
             units: Units::One(two),
             next: at + 2,

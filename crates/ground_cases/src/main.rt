@@ -48,9 +48,7 @@ fn told_of_stop(heap: Global, set: &str, bytes: &[u8], from: usize) -> anyhow::R
 }
 
 fn cursor_at(bytes: &[u8], place: usize) -> Cursor<'_> {
-    let mut cursor = Cursor::new(Text::new(bytes));
-    cursor.move_to(place);
-    cursor
+    Cursor::new(Text::new(bytes)).moved(place)
 }
 
 // Where a cursor stands that is told to move from the start.

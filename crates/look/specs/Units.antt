@@ -1,5 +1,5 @@
 -- The units of a literal, one after the other: where their reader stands, and what a call gives. Assumes nothing.
-use Rattle.std.specs.Prelude.{◌≡◌, ℕ, ◌+◌, ◌-◌, ◌*◌, Bool, List, [], ◌∷◌, ◌++◌, length, Some, None, Option, MatchOption}
+use Rattle.std.specs.Prelude.{◌≡◌, ℕ, ◌+◌, ◌-◌, ◌*◌, ◌<◌, Bool, List, [], ◌∷◌, ◌++◌, length, Some, None, Option, MatchOption, OnSome}
 use Rattle.grammar.specs.Utf8.{utf8}
 use Rattle.grammar.specs.Rule.{Leaf, Takes}
 use Rattle.grammar.specs.Literal.{Body}
@@ -60,6 +60,12 @@ Gives r u s = (s.literal ≡ r.literal) × ((us : List ℕ) → Gave r us → Ma
 -- falls with each unit
 abbrev pub togo : UnitReader → ℕ
 togo r = 3 * (length r.literal.inside.bytes.now - r.cursor.place.at) + length (listed r.pending)
+
+-- it reads on where it stands: the same literal, with the same units given, and nearer to the end; or all of them are given
+pub record ReadsOn {A : Type 0} (r : UnitReader) (on : Option A) (s : UnitReader) : Type 0 where
+  pub literal : s.literal ≡ r.literal
+  pub gave : (us : List ℕ) → Gave r us → MatchOption on (GaveAll r us) (λ _. Gave s us)
+  pub nearer : OnSome on (togo s < togo r)
 
 -- a number of units is that of the literal's value, if it has one
 pub record CountedUnits (bs : List ℕ) (start : ℕ) (o : Opening) (n : ℕ) : Type 0 where

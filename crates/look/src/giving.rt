@@ -1,10 +1,10 @@
 // How the units of a literal are read.
-ghost use Rattle.std.specs.Prelude.{◌≡◌, ℕ, ◌<◌, ◌≤◌, List, [], ◌∷◌, MatchOption, OnSome};
+ghost use Rattle.std.specs.Prelude.{◌≡◌, ℕ, ◌<◌, ◌≤◌, List, [], ◌∷◌, MatchOption};
 ghost use Rattle.std.specs.Iterator.{at_most};
 ghost use Rattle.grammar.specs.Literal.{Body};
 ghost use Rattle.escapes.specs.Escapes.{listed};
 ghost use Rattle.pieces.specs.Pieces.{StopRead};
-ghost use Rattle.look.specs.Units.{GivenRead, Gave, GaveAll, Gives, togo};
+ghost use Rattle.look.specs.Units.{GivenRead, Gave, Gives, ReadsOn, togo};
 
 use crate::literal::Literal;
 use crate::units::UnitReader;
@@ -69,9 +69,7 @@ impl UnitReader<'_> {
     // Reads the character at the place.
     fn read_plain(&mut self) -> Option<()>
         requires { (listed self.old.pending ≡ []) × (self.old.cursor.place.at < self.old.piece.to) }
-        ensures literal { self.new.literal ≡ self.old.literal }
-        ensures gave { (us : List ℕ) → Gave self.old us → MatchOption result (GaveAll self.old us) (λ _. Gave self.new us) }
-        ensures nearer { OnSome result (togo self.new < togo self.old) }
+        ensures { ReadsOn self.old result self.new }
     {
         let (c, behind) = self.cursor.peek_char()?;
         self.cursor.move_to(behind);
@@ -82,9 +80,7 @@ impl UnitReader<'_> {
     // Reads the stop behind the plain characters, and the next piece; none at the literal's end.
     fn read_stop(&mut self) -> Option<()>
         requires { (listed self.old.pending ≡ []) × (self.old.piece.to ≤ self.old.cursor.place.at) }
-        ensures literal { self.new.literal ≡ self.old.literal }
-        ensures gave { (us : List ℕ) → Gave self.old us → MatchOption result (GaveAll self.old us) (λ _. Gave self.new us) }
-        ensures nearer { OnSome result (togo self.new < togo self.old) }
+        ensures { ReadsOn self.old result self.new }
     {
         let given = given_by(self.piece.stop)?;
         self.cursor.move_to(given.next);
@@ -96,9 +92,7 @@ impl UnitReader<'_> {
     // Reads on, where no unit is pending; none at the literal's end.
     fn read_on(&mut self) -> Option<()>
         requires { listed self.old.pending ≡ [] }
-        ensures literal { self.new.literal ≡ self.old.literal }
-        ensures gave { (us : List ℕ) → Gave self.old us → MatchOption result (GaveAll self.old us) (λ _. Gave self.new us) }
-        ensures nearer { OnSome result (togo self.new < togo self.old) }
+        ensures { ReadsOn self.old result self.new }
     {
         if self.cursor.place() < self.piece.to {
             self.read_plain()

@@ -44,8 +44,7 @@ impl<'t> Literal<'t> {
             .copied()
             .ok_or(Refusal::StartPastEnd)?;
         let opening = opening_at(byte, scan).ok_or(Refusal::WrongOpening)?;
-        let mut inside = Cursor::new(text);
-        inside.move_to(start + 1);
+        let inside = Cursor::new(text).moved(start + 1);
         Ok(Literal {
             inside,
             start,

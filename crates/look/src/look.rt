@@ -31,7 +31,7 @@ fn kind_of(opening: Opening, ending: Ending) -> Kind
 fn is_terminated(kind: Kind) -> bool
     ensures { result ≡ terminated kind }
 {
-    !matches!(kind, Kind::Undetermined)
+    kind != Kind::Undetermined
 }
 
 impl Literal<'_> {

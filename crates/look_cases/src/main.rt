@@ -53,14 +53,8 @@ where
 // What a look tells of a literal, its units and its faults.
 fn write_literal(out: &mut String, literal: Literal<'_>) -> anyhow::Result<()> {
     let Look { token, units, .. } = literal.look();
-    let Token {
-        kind,
-        end,
-        escaped,
-        ..
-    } = token;
-    let mark = if escaped { "escaped" } else { "plain" };
-    write!(out, "{kind} {end} {mark} ")?;
+    let Token { kind, end, .. } = token;
+    write!(out, "{kind} {end} {} ", token.mark())?;
     if units.is_some() {
         write_joined(
             out,

@@ -78,8 +78,7 @@ fn backslash(cursor: Cursor<'_>, opening: Opening) -> Stop
     requires { Here cursor.bytes.now cursor.place.at 92 }
     ensures { StopRead (body_of opening) cursor.entry.bytes.now cursor.entry.place.at result }
 {
-    let mut behind = cursor;
-    behind.move_to(cursor.place() + 1);
+    let behind = cursor.moved(cursor.place() + 1);
     match read_escape(behind, opening.in_template()) {
         None => Stop::End(Ending::LastBackslash, behind.place()),
         Some(escape) => Stop::Escape(escape),
@@ -156,13 +155,9 @@ pub fn next_piece(cursor: Cursor<'_>, opening: Opening) -> Piece
             to: end,
             stop: Stop::End(Ending::TextEnd, end),
         },
-        Some((to, byte)) => {
-            let mut there = cursor;
-            there.move_to(to);
-            Piece {
-                to,
-                stop: stop_at(there, byte, opening),
-            }
-        }
+        Some((to, byte)) => Piece {
+            to,
+            stop: stop_at(cursor.moved(to), byte, opening),
+        },
     }
 }

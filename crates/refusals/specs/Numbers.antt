@@ -1,4 +1,4 @@
--- The number of each refusal. Assumes nothing.
+-- The number of each refusal. Assumes nothing. Contracts tell refusals by number, since the pages and the C interface name them so, a rule of the project.
 use Rattle.std.specs.Prelude.{ℕ, Ok, Err, Result}
 use Rattle.refusals.specs.declared.Refusal.{Refusal}
 use Rattle.refusals.specs.declared.Refusal.TheVariants.{TooLong, NotUtf8, StartPastEnd, WrongOpening, IndexPastEnd, UnlawfulPattern, MalformedCommand, NoEntry, NoRecord, NoSlot, NoPlace, NoCapacity, PartNotUtf8}

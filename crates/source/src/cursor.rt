@@ -17,6 +17,7 @@ pub struct Cursor<'t> {
     ghost boundary: { IsCharBoundary bytes.now place.at },
 }
 
+// The clauses named `text` are the equation itself, since a definition of it would be no shorter.
 impl<'t> Cursor<'t> {
     // The start of a text.
     pub fn new(text: Text<'t>) -> Cursor<'t>
@@ -91,6 +92,17 @@ impl<'t> Cursor<'t> {
         if self.text().as_str().is_char_boundary(at) {
             self.place = Place { at };
         }
+    }
+
+    // The cursor at another place, and the same cursor where that is past the end or inside a character.
+    pub fn moved(self, at: usize) -> Cursor<'t>
+        ensures text { result.bytes.now ≡ self.entry.bytes.now }
+        ensures moves { IsCharBoundary self.entry.bytes.now at → result.place.at ≡ at }
+        ensures stays { (IsCharBoundary self.entry.bytes.now at → ⊥) → result.place.at ≡ self.entry.place.at }
+    {
+        let mut there = self;
+        there.move_to(at);
+        there
     }
 
     // Takes a CR LF, if one stands at the place.

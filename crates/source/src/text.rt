@@ -25,10 +25,8 @@ impl<'a> TryFrom<&'a [u8]> for Text<'a> {
         if bytes.len() > LIMIT {
             return Err(Refusal::TooLong);
         }
-        match std::str::from_utf8(bytes) {
-            Ok(_) => Ok(Text { bytes }),
-            Err(e) => Err(Refusal::NotUtf8(e.valid_up_to())),
-        }
+        std::str::from_utf8(bytes).map_err(|e| Refusal::NotUtf8(e.valid_up_to()))?;
+        Ok(Text { bytes })
     }
 }
 

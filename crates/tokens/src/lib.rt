@@ -2,7 +2,7 @@
 #![tactic(auto)]
 
 ghost use Rattle.std.specs.Prelude.{◌≡◌, Some};
-ghost use Rattle.tokens.specs.Names.{word_of, token_text};
+ghost use Rattle.tokens.specs.Names.{word_of, mark_of, token_text};
 
 use std::fmt;
 
@@ -48,6 +48,15 @@ pub struct Token {
     pub escaped: bool,
 }
 
+impl Token {
+    // Its mark, in a word.
+    pub fn mark(self) -> &'static str
+        ensures { result.now ≡ mark_of self.escaped }
+    {
+        if self.escaped { "escaped" } else { "plain" }
+    }
+}
+
 impl fmt::Display for Token {
     ghost output = { λ token. Some (token_text token) };
 
@@ -56,9 +65,9 @@ impl fmt::Display for Token {
             start,
             end,
             kind,
-            escaped,
+            ..
         } = *self;
-        let mark = if escaped { "escaped" } else { "plain" };
+        let mark = self.mark();
         write!(f, "{kind} {start} {end} {mark}")
     }
 }

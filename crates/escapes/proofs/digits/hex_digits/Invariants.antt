@@ -1,5 +1,5 @@
 use Rattle.escapes.proofs.Numerals.{Took}
 use Rattle.escapes.proofs.digits.hex_digits.Given as goal
 
-abbrev pub invariant-loop-i : goal.invariant-loop-i
-invariant-loop-i l = Took l.cursor.bytes.now l.cursor.place.at l.digits l.value l._i
+abbrev pub invariant-loop : goal.invariant-loop
+invariant-loop l = Took l.cursor.bytes.now l.cursor.place.at l.digits l.value l.counter

@@ -25,7 +25,7 @@ returns-else-not-stands_at c =
     let (d, f, _) = rw c.ahead.ensures.0 at (rw c.ahead.ensures.1 at c.in-Ok.ensures) in
     let k = rw c.moved-behind.ensures.0 at (rw c.moved-behind.ensures.1 at c.if-not-stands_at.ensures) in
     braces_all c.args.cursor.bytes.now c.args.cursor.place.at c.args.in_template c.in-Ok.value c.in-Ok.to c.unicode_units.result c.requires.0 c.requires.1 d f k
-    (c.unicode_units.ensures ∙ c.one_of.ensures.0)
+    (c.unicode_units.ensures ∙ c.one_of.ensures)
 
 pub returns-then-not-stands_at : goal.returns-then-not-stands_at
 returns-then-not-stands_at c =

@@ -7,8 +7,8 @@ returns-in_default c =
     let h = rw c.ahead.ensures.0 at (rw c.ahead.ensures.1 at c.in_default.ensures.digit_at) in
     rw c.place-at.ensures (rw c.from.ensures (octal_one c.args.cursor.bytes.now c.args.cursor.place.at c.args.first c.requires.0 c.requires.1.1 h))
 
-pub returns-then-not-contains : goal.returns-then-not-contains
-returns-then-not-contains c =
+pub returns-then-first-gt-FIRST_OF_THREE : goal.returns-then-first-gt-FIRST_OF_THREE
+returns-then-first-gt-FIRST_OF_THREE c =
     let h = rw c.ahead.ensures.0 at (rw c.ahead.ensures.1 at c.in-Some.ensures.digit_at) in
     rw c.place-at.ensures (rw c.from-two.ensures (octal_high c.args.cursor.bytes.now c.args.cursor.place.at c.args.first c.in-Some.second c.requires.0 (search rules) h))
 

@@ -11,16 +11,16 @@ pub returns-then-not-matches : goal.returns-then-not-matches
 returns-then-not-matches c m =
     let (d, l) = rw c.ahead.ensures.0 at (rw c.ahead.ensures.1 at c.in_ok-high.ensures) in
     unit_all c.args.cursor.bytes.now c.args.cursor.place.at m c.in_ok-high.high c.in_ok-high.to c.unicode_units.result c.requires.0 d l
-    (rw c.from.ensures at (c.unicode_units.ensures ∙ c.one_of.ensures.0) ∙ utf16_unit c.in_ok-high.high (search rules))
+    (rw c.from.ensures at (c.unicode_units.ensures ∙ c.one_of.ensures) ∙ utf16_unit c.in_ok-high.high (search rules))
 
 pub returns-in-None : goal.returns-in-None
 returns-in-None c m =
     let (d, l) = rw c.ahead.ensures.0 at (rw c.ahead.ensures.1 at c.in_ok-high.ensures) in
     unit_all c.args.cursor.bytes.now c.args.cursor.place.at m c.in_ok-high.high c.in_ok-high.to c.unicode_units.result c.requires.0 d l
-    (rw c.from.ensures at (c.unicode_units.ensures ∙ c.one_of.ensures.0) ∙ utf16_unit c.in_ok-high.high (search rules))
+    (rw c.from.ensures at (c.unicode_units.ensures ∙ c.one_of.ensures) ∙ utf16_unit c.in_ok-high.high (search rules))
 
 pub returns-in-Some : goal.returns-in-Some
 returns-in-Some c m =
     let (d, l) = rw c.ahead.ensures.0 at (rw c.ahead.ensures.1 at c.in_ok-high.ensures) in
     unit_pair c.args.cursor.bytes.now c.args.cursor.place.at m c.in_ok-high.high c.in_ok-high.to c.in-Some.low _ c.unicode_units-in-Some.result c.requires.0 d l c.in-Some.ensures
-    (c.unicode_units-in-Some.ensures ∙ c.pair_of.ensures.0)
+    (c.unicode_units-in-Some.ensures ∙ c.pair_of.ensures)

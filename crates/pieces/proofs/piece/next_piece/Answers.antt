@@ -7,7 +7,7 @@ use Rattle.pieces.proofs.piece.next_piece.Goals as goal
 pub stop_at-requires : goal.stop_at-requires
 stop_at-requires c =
     let s = c.args.cursor in
-    let m = c.move_to.ensures in
+    let m = c.moved.ensures in
     let h = c.in-Some.ensures in
     (rw m.text (rw (m.moves h.boundary) (stop_here (body_of c.args.opening) s.bytes.now s.place.at c.in-Some.to c.in-Some.byte (at_cursor s) h.first h.boundary)), h.first.stop)
 
@@ -20,7 +20,7 @@ returns-in-None c =
 pub returns-in-Some : goal.returns-in-Some
 returns-in-Some c =
     let s = c.args.cursor in
-    let m = c.move_to.ensures in
+    let m = c.moved.ensures in
     let h = c.in-Some.ensures in
     record {
       plain = plain (body_of c.args.opening) s.bytes.now s.place.at c.in-Some.to (at_cursor s) h.boundary h.first.behind h.first.first;

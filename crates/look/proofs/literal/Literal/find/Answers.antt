@@ -10,7 +10,7 @@ invariant_of-result-clause-opened c =
     let b : get_or c.args.text.bytes.now c.args.start 0 ≡ c.in_ok-byte.byte = search rules in
     let e = c.in_ok-opening.ensures.ok_part in
     let m = subst (λ z. MatchOption z (opens c.args.scan c.in_ok-byte.byte ≡ false) (λ o. (opens c.args.scan c.in_ok-byte.byte ≡ true) × (c.in_ok-byte.byte ≡ opener o) × (suits c.args.scan (scan_of o) ≡ true))) e c.opening_at.ensures in
-    subst (λ z. get_or z c.args.start 0 ≡ opener c.in_ok-opening.opening) (sym (c.move_to.ensures.text ∙ c.new-inside.ensures.0)) (b ∙ m.1)
+    subst (λ z. get_or z c.args.start 0 ≡ opener c.in_ok-opening.opening) (sym (c.moved-inside.ensures.text ∙ c.new.ensures.0)) (b ∙ m.1)
 
 pub invariant_of-result-clause-behind : goal.invariant_of-result-clause-behind
 invariant_of-result-clause-behind c =
@@ -19,4 +19,4 @@ invariant_of-result-clause-behind c =
     let b : get_or bs c.args.start 0 ≡ c.in_ok-byte.byte = search rules in
     let e = c.in_ok-opening.ensures.ok_part in
     let m = subst (λ z. MatchOption z (opens c.args.scan c.in_ok-byte.byte ≡ false) (λ o. (opens c.args.scan c.in_ok-byte.byte ≡ true) × (c.in_ok-byte.byte ≡ opener o) × (suits c.args.scan (scan_of o) ≡ true))) e c.opening_at.ensures in
-    c.move_to.ensures.moves (subst (λ z. IsCharBoundary z (c.args.start + 1)) (sym c.new-inside.ensures.0) (opened bs c.args.start c.in_ok-opening.opening c.args.text.well l (b ∙ m.1)).behind.boundary)
+    c.moved-inside.ensures.moves (subst (λ z. IsCharBoundary z (c.args.start + 1)) (sym c.new.ensures.0) (opened bs c.args.start c.in_ok-opening.opening c.args.text.well l (b ∙ m.1)).behind.boundary)

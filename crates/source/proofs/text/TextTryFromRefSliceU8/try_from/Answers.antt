@@ -1,5 +1,6 @@
+use Rattle.std.proofs.Common.{rules}
 use Rattle.source.proofs.Known.{well_from}
 use Rattle.source.proofs.text.TextTryFromRefSliceU8.try_from.Goals as goal
 
 pub invariant_of-result-clause-well : goal.invariant_of-result-clause-well
-invariant_of-result-clause-well c = well_from c.args.bytes.now c.in-Ok.ensures.cases.1
+invariant_of-result-clause-well c = well_from c.args.bytes.now (search rules)
