@@ -8,7 +8,7 @@ ghost use Rattle.nethrawf.specs.Exports.{Serves, status_of, limits};
 
 use super::failure::{Failure, status};
 use super::forms::{Request, Response, Room};
-use faults::{Fault, FaultKind};
+use faults::Fault;
 use refusals::Refusal;
 use session::{Answer, Call, Session};
 use slots::Slot;
@@ -43,12 +43,7 @@ fn live<S: ValueStore>(
     let text = Text::try_from(bytes)?;
     let mut strings = vec![in heap; Slot::new(0usize); room.strings]?;
     let mut templates = vec![in heap; Slot::new(Some(0usize)); room.templates]?;
-    let blank = Fault {
-        kind: FaultKind::Unterminated,
-        from: 0,
-        to: 0,
-    };
-    let mut records = vec![in heap; blank; room.records]?;
+    let mut records = vec![in heap; Fault::default(); room.records]?;
     let mut session = Session::new(
         store,
         strings.as_mut_slice(),

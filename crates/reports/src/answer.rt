@@ -9,7 +9,7 @@ use super::report::{Output, Report};
 use super::stop::Stop;
 use commands::commands_of;
 use commands::kinds::Command;
-use faults::{Fault, FaultKind};
+use faults::Fault;
 use refusals::Refusal;
 use session::Session;
 use slots::Slot;
@@ -52,12 +52,7 @@ fn perform_all(heap: Global, text: Text<'_>, commands: &[Command]) -> Result<Rep
     let mut store = Units::new(&mut cells, &mut ends);
     let mut strings = [Slot::new(0usize); 64];
     let mut templates = [Slot::new(Some(0usize)); 64];
-    let blank = Fault {
-        kind: FaultKind::Unterminated,
-        from: 0,
-        to: 0,
-    };
-    let mut records = [blank; 64];
+    let mut records = [Fault::default(); 64];
     let mut session = Session::new(&mut store, &mut strings, &mut templates, &mut records);
     play(heap, &mut session, &mut store, text, commands)
 }
