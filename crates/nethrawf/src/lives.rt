@@ -6,10 +6,11 @@ ghost use Rattle.session.specs.Scans.{bytes_of};
 ghost use Rattle.nethrawf.specs.Lives.{Performed, Served};
 ghost use Rattle.nethrawf.specs.Exports.{Serves, status_of, limits};
 
-use super::failure::{Failure, status};
+use super::failure::status;
 use super::forms::{Request, Response, Room};
 use faults::Fault;
 use refusals::Refusal;
+use refusals::failure::Failure;
 use session::{Answer, Call, Session};
 use slots::Slot;
 use source::text::Text;
