@@ -55,6 +55,8 @@ fn live<S: ValueStore>(
     Ok(())
 }
 
+// One loop with a session's `serve`, yet not one function: what goes in and what comes out are other types, and the law
+// is told of other lists, so a function over both would be no plainer.
 fn respond_all<S: ValueStore>(
     session: &mut Session<'_>,
     store: &mut S,
