@@ -2,7 +2,10 @@
 ghost use Rattle.std.specs.Prelude.{◌≡◌, ◌≢◌};
 ghost use Rattle.commands.specs.Format.{spelled};
 ghost use Rattle.commands.specs.declared.kinds.NoCommands.TheVariants.{Malformed};
+ghost use Rattle.commands.specs.Stopped.{stopped};
 
+use refusals::Refusal;
+use refusals::failure::Failure;
 use std::alloc::{AllocError, AllocFailed};
 
 // What a command asks for: one of the three scans, or a value.
@@ -46,5 +49,16 @@ impl<T: Drop> From<AllocFailed<T>> for NoCommands {
 
     fn from(failed: AllocFailed<T>) -> NoCommands {
         NoCommands::NoMemory(failed.into())
+    }
+}
+
+impl From<NoCommands> for Failure {
+    ghost from_gives = { λ why failure. failure ≡ stopped why };
+
+    fn from(why: NoCommands) -> Failure {
+        match why {
+            NoCommands::Malformed => Failure::Refused(Refusal::MalformedCommand),
+            NoCommands::NoMemory(error) => Failure::NoMemory(error),
+        }
     }
 }

@@ -30,7 +30,7 @@ pub fn commands_of<'a>(
     Err(NoCommands::Malformed)
 }
 
-// The command that a line holds.
+// The command that a line holds. A function, since a TryFrom would be no plainer: no reason is told why there is none.
 pub fn command(line: &[u8]) -> Option<Command>
     ensures { MatchOption result ((c : Command) → Line c line.now → ⊥) (λ c. Line c line.now) }
 {
@@ -43,20 +43,14 @@ pub fn command(line: &[u8]) -> Option<Command>
 fn word(line: &[u8]) -> Option<(Word, &[u8])>
     ensures { MatchOption result ((w : Word) (ds : List ℕ) → line.now ≢ spelled w ++ ds) (λ p. line.now ≡ spelled p.0 ++ p.1.now) }
 {
+    // a loop, since the proof of a find_map over the words did not close
     let words = [Word::Str, Word::Template, Word::Resume, Word::Value];
     for word in words {
-        if let Some(digits) = after(line, word.front()) {
+        if let Some(digits) = line.strip_prefix(word.front()) {
             return Some((word, digits));
         }
     }
     None
-}
-
-// What follows `front` in `line`, where it begins so.
-fn after<'a>(line: &'a [u8], front: &[u8]) -> Option<&'a [u8]>
-    ensures { MatchOption result ((ds : List ℕ) → line.now ≢ front.now ++ ds) (λ rest. line.now ≡ front.now ++ rest.now) }
-{
-    line.strip_prefix(front)
 }
 
 // The number that one to eight decimal digits spell.

@@ -7,9 +7,10 @@ use refusals::Refusal;
 use std::fmt;
 
 // What is wrong with a literal.
-#[derive(Clone, Copy, PartialEq, Eq, Debug)]
+#[derive(Clone, Copy, Default, PartialEq, Eq, Debug)]
 pub enum FaultKind {
     // the literal does not end
+    #[default]
     Unterminated,
     // an escape that stands for nothing
     InvalidEscape,
@@ -44,8 +45,8 @@ impl fmt::Display for FaultKind {
     }
 }
 
-// A fault, from one place to another.
-#[derive(Clone, Copy, PartialEq, Eq, Debug)]
+// A fault, from one place to another. The default one fills records that are not used yet.
+#[derive(Clone, Copy, Default, PartialEq, Eq, Debug)]
 pub struct Fault {
     pub kind: FaultKind,
     pub from: usize,

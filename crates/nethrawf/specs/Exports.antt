@@ -2,6 +2,8 @@
 use Rattle.std.specs.Prelude.{◌≡◌, ℕ, ◌<◌, ◌≤◌, min, ◌⊎◌, List, [], map, length, take, drop, Some, None, Ok, Err, Result, IsUtf8}
 use Rattle.std.specs.Str.{IsValidUpTo}
 use Rattle.refusals.specs.declared.Refusal.{Refusal}
+use Rattle.refusals.specs.declared.failure.Failure.{Failure}
+use Rattle.refusals.specs.declared.failure.Failure.TheVariants.{Refused, NoMemory}
 use Rattle.refusals.specs.Numbers.{number_of}
 use Rattle.source.specs.Checks.{NoText}
 use Rattle.source.specs.Texts.{IsText, limit}
@@ -11,8 +13,6 @@ use Rattle.look.specs.Looked.{Answered}
 use Rattle.ledger.specs.Calls as ask
 use Rattle.ledger.specs.Ledger.{Limits, Ledger}
 use Rattle.ledger.specs.Life.{Lived}
-use Rattle.nethrawf.specs.declared.failure.Failure.{Failure}
-use Rattle.nethrawf.specs.declared.failure.Failure.TheVariants.{Refused, NoMemory}
 use Rattle.nethrawf.specs.declared.forms.Request.{Request}
 use Rattle.nethrawf.specs.declared.forms.Response.{Response}
 use Rattle.nethrawf.specs.declared.forms.Room.{Room}

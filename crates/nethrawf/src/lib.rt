@@ -5,12 +5,13 @@ ghost use Rattle.std.specs.Prelude.{◌≡◌, min, length};
 ghost use Rattle.coding.specs.Codes.{weight as bytes_weight};
 ghost use Rattle.nethrawf.specs.Exports.{Checked, Looks, Serves, status_of, limits};
 
-use failure::{Failure, status};
+use failure::status;
 use forms::{Request, Response, Room, Seen};
 use lives::serve;
 use look::look::look;
 use numbers::scan_of;
 use refusals::Refusal;
+use refusals::failure::Failure;
 use source::text::{Text, check};
 use std::alloc::Global;
 use units::Units;

@@ -6,10 +6,11 @@ ghost use Rattle.session.specs.Scans.{bytes_of};
 ghost use Rattle.nethrawf.specs.Lives.{Performed, Served};
 ghost use Rattle.nethrawf.specs.Exports.{Serves, status_of, limits};
 
-use super::failure::{Failure, status};
+use super::failure::status;
 use super::forms::{Request, Response, Room};
-use faults::{Fault, FaultKind};
+use faults::Fault;
 use refusals::Refusal;
+use refusals::failure::Failure;
 use session::{Answer, Call, Session};
 use slots::Slot;
 use source::text::Text;
@@ -43,12 +44,7 @@ fn live<S: ValueStore>(
     let text = Text::try_from(bytes)?;
     let mut strings = vec![in heap; Slot::new(0usize); room.strings]?;
     let mut templates = vec![in heap; Slot::new(Some(0usize)); room.templates]?;
-    let blank = Fault {
-        kind: FaultKind::Unterminated,
-        from: 0,
-        to: 0,
-    };
-    let mut records = vec![in heap; blank; room.records]?;
+    let mut records = vec![in heap; Fault::default(); room.records]?;
     let mut session = Session::new(
         store,
         strings.as_mut_slice(),
@@ -59,6 +55,8 @@ fn live<S: ValueStore>(
     Ok(())
 }
 
+// One loop with a session's `serve`, yet not one function: what goes in and what comes out are other types, and the law
+// is told of other lists, so a function over both would be no plainer.
 fn respond_all<S: ValueStore>(
     session: &mut Session<'_>,
     store: &mut S,

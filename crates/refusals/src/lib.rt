@@ -7,6 +7,8 @@ ghost use Rattle.refusals.specs.Numbers.{number_of};
 use std::error::Error;
 use std::fmt;
 
+pub mod failure;
+
 #[derive(Clone, Copy, PartialEq, Eq, Debug)]
 pub enum Refusal {
     // more than 16,777,216 bytes

@@ -14,8 +14,8 @@ use Rattle.session.specs.Calls.{Lives}
 use Rattle.commands.specs.declared.kinds.Command.{Command}
 use Rattle.commands.specs.Format.{Input}
 use Rattle.reports.specs.declared.report.Report.{Report}
-use Rattle.reports.specs.declared.stop.Stop.{Stop}
-use Rattle.reports.specs.declared.stop.Stop.TheVariants.{Refused}
+use Rattle.refusals.specs.declared.failure.Failure.{Failure}
+use Rattle.refusals.specs.declared.failure.Failure.TheVariants.{Refused}
 use Rattle.reports.specs.Transcript.{transcript, Played}
 use Rattle.reports.specs.Answers.{bench, LivedThrough, TurnedDown, Answers}
 
@@ -55,10 +55,10 @@ no_text cs text input PartNotUtf8 p found none = absurd none
 
 -- and `?` passes the refusal on
 pub turned_down :
-    (r : Result Report Stop) (input : List ℕ) (f : Refusal) → IsErrAnd r (λ stop. stop ≡ Refused f) → TurnedDown input (number_of f)
-    → MatchResult r (λ report. Answers input (Ok report)) (λ stop. (e : Refusal) → stop ≡ Refused e → Answers input (Err e))
+    (r : Result Report Failure) (input : List ℕ) (f : Refusal) → IsErrAnd r (λ failure. failure ≡ Refused f) → TurnedDown input (number_of f)
+    → MatchResult r (λ report. Answers input (Ok report)) (λ failure. (e : Refusal) → failure ≡ Refused e → Answers input (Err e))
 turned_down (Ok report) input f passed why = absurd passed
-turned_down (Err stop) input f passed why = λ e is. let same : f ≡ e = cc in subst (λ z. TurnedDown input (number_of z)) same why
+turned_down (Err failure) input f passed why = λ e is. let same : f ≡ e = cc in subst (λ z. TurnedDown input (number_of z)) same why
 
 -- what the commands of an input on its text tell is the answer to the input
 pub reported :

@@ -1,6 +1,5 @@
 -- Questions asked one after another. Assumes nothing.
-use Rattle.std.proofs.Common.{◌≡◌, ℕ, zero, suc, ◌+◌, ◌<◌, Bool, true, cond, ltb, List, [], ◌∷◌, ◌++◌, length, Some, None, Ok, Err, Option, Result, IsOk, sym, refl, ap, ◌∙◌, subst, arith, length-append}
-use Rattle.std.proofs.ResultArms.{chosen}
+use Rattle.std.proofs.Common.{◌≡◌, ℕ, zero, suc, ◌+◌, ◌<◌, true, ltb, List, [], ◌∷◌, ◌++◌, length, Some, None, Ok, Err, Option, Result, IsOk, sym, refl, ap, ◌∙◌, subst, arith, length-append}
 use Rattle.std.proofs.lemmas.Bool.{lt-ltb}
 use Rattle.refusals.specs.declared.Refusal.{Refusal}
 use Rattle.faults.specs.declared.list.Fault.{Fault}
@@ -10,9 +9,8 @@ use Rattle.ledger.specs.Ledger.{value_asked, unit_asked, fault_asked}
 use Rattle.session.specs.declared.Session.{Session}
 use Rattle.session.specs.Replies.{unit_reply, fault_reply}
 use Rattle.session.specs.Calls.{Carries, Asks, LivesOn}
-use Rattle.session.proofs.Carrying.{still, joined, as_told}
-use Rattle.reports.specs.Transcript.{each_told, units_told}
-use Rattle.reports.proofs.Carrying.{each_more}
+use Rattle.session.proofs.Carrying.{still, joined}
+use Rattle.reports.specs.Transcript.{each_told, units_told, EachAnswers}
 
 -- a unit within the value's length is told
 pub unit_is_told : (v : Option (Option (List ℕ))) (many i : ℕ) (r : Result ℕ Refusal) → ask.valued true many ≡ value_asked v → i < many → unit_reply r ≡ unit_asked v i → IsOk r
@@ -31,28 +29,29 @@ fault_is_told [] i (Err x) p q = absurd (omega arith)
 fault_is_told (f ∷ fs) zero (Err x) p q = absurd (cc)
 fault_is_told (f ∷ fs) (suc i) (Err x) p q = fault_is_told fs i (Err x) (omega arith) q
 
--- so many items were asked for one after another, and each was told
-pub record Gathered {A : Type 0} (w : List ℕ → ℕ) (x : Session) (h : Held) (f : ℕ → A → ask.Exchange) (n : ℕ) (items : List A) : Type 0 where
-  pub count : length items ≡ n
-  pub lives : (text : List ℕ) → Carries w text x h (each_told f 0 items) x h
+-- one item more, and it answers at its index
+pub answers_more :
+    {A : Type 0} (P : ℕ → A → Type 0) (i : ℕ) (items : List A) (a : A) → EachAnswers P i items → P (i + length items) a → EachAnswers P i (items ++ (a ∷ []))
+answers_more P i [] a all one = let at : i + 0 ≡ i = omega arith in (subst (λ (k : ℕ). P k a) at one, tt)
+answers_more P i (b ∷ items) a all one =
+    let at : i + length (b ∷ items) ≡ i + 1 + length items = omega arith in
+    (all.0, answers_more P (i + 1) items a all.1 (subst (λ (k : ℕ). P k a) at one))
 
-module _ {A : Type 0} (w : List ℕ → ℕ) (x : Session) (h : Held) (f : ℕ → A → ask.Exchange) where
-  pub gathered_none : (items : List A) → items ≡ [] → Gathered w x h f 0 items
-  gathered_none items e = subst (λ z. Gathered w x h f 0 z) (sym e) (record { count = refl; lives = λ text. still w text x h })
+pub so_many_more :
+    {A : Type 0} (P : ℕ → A → Type 0) (n : ℕ) (items more : List A) (a : A) → length items ≡ n → EachAnswers P 0 items → more ≡ items ++ (a ∷ []) → P n a
+    → (length more ≡ n + 1) × EachAnswers P 0 more
+so_many_more P n items more a count all e one =
+    let at : n ≡ 0 + length items = omega (arith, count) in
+    subst (λ z. (length z ≡ n + 1) × EachAnswers P 0 z) (sym e)
+    (length-append items (a ∷ []) ∙ ap (λ (k : ℕ). k + 1) count, answers_more P 0 items a all (subst (λ (k : ℕ). P k a) at one))
 
-  pub gathered_more :
-      (n : ℕ) (items more : List A) (a : A) (b : Bool) → Gathered w x h f n items → more ≡ cond b (items ++ (a ∷ [])) items → b ≡ true
-      → ((text : List ℕ) → Carries w text x h (f n a ∷ []) x h) → Gathered w x h f (n + 1) more
-  gathered_more n items more a b got e pushed told =
-      let at : 0 + length items ≡ n = omega (arith, got.count) in
-      subst (λ z. Gathered w x h f (n + 1) z) (sym (chosen _ _ _ _ e pushed))
-      (record {
-        count = length-append items (a ∷ []) ∙ ap (λ (k : ℕ). k + 1) got.count;
-        lives =
-            λ text.
-            as_told w text x h _ _ x h (ap (λ (k : ℕ). each_told f 0 items ++ (f k a ∷ [])) (sym at) ∙ sym (each_more f 0 items a))
-            (joined w text x h _ _ x x h h (got.lives text) (told text));
-      })
+-- where each answer is an exchange of a life, all are
+pub each_carries :
+    {A : Type 0} (w : List ℕ → ℕ) (x : Session) (h : Held) (f : ℕ → A → ask.Exchange) (P : ℕ → A → Type 0)
+    → ((i : ℕ) (a : A) → P i a → (text : List ℕ) → Carries w text x h (f i a ∷ []) x h) → (i : ℕ) (items : List A) → EachAnswers P i items → (text : List ℕ) → Carries w text x h (each_told f i items) x h
+each_carries w x h f P one i [] all text = still w text x h
+each_carries w x h f P one i (a ∷ items) all text =
+    joined w text x h (f i a ∷ []) (each_told f (i + 1) items) x x h h (one i a all.0 text) (each_carries w x h f P one (i + 1) items all.1 text)
 
 -- one exchange, and then others
 pub headed :

@@ -1,18 +1,13 @@
 -- What an input is answered with. Assumes nothing.
 use Rattle.std.specs.Prelude.{◌≡◌, ℕ, ◌<◌, ◌≤◌, ◌⊎◌, List, [], map, length, vec_items, Ok, Err, Result, IsUtf8}
 use Rattle.refusals.specs.declared.Refusal.{Refusal}
-use Rattle.refusals.specs.declared.Refusal.TheVariants.{MalformedCommand}
 use Rattle.refusals.specs.Numbers.{number_of}
 use Rattle.ledger.specs.Ledger.{Limits, Ledger}
 use Rattle.ledger.specs.Life.{Lived}
 use Rattle.commands.specs.declared.kinds.Command.{Command}
-use Rattle.commands.specs.declared.kinds.NoCommands.{NoCommands}
-use Rattle.commands.specs.declared.kinds.NoCommands.TheVariants as none
 use Rattle.commands.specs.Format.{Input, NoInput}
 use Rattle.reports.specs.declared.report.Line.{Line}
 use Rattle.reports.specs.declared.report.Report.{Report}
-use Rattle.reports.specs.declared.stop.Stop.{Stop}
-use Rattle.reports.specs.declared.stop.Stop.TheVariants.{Refused, NoMemory}
 use Rattle.reports.specs.Transcript.{transcript}
 
 -- what the session of an input may hold
@@ -33,8 +28,3 @@ TurnedDown input n =
 abbrev pub Answers : List ℕ → Result Report Refusal → Type 0
 Answers input (Err e) = TurnedDown input (number_of e)
 Answers input (Ok r) = (length input ≤ 32768) × ((cs : List Command) × (text : List ℕ) × Input cs text input × IsUtf8 text × LivedThrough text cs r)
-
--- an input that is not made of commands is turned down as malformed
-abbrev pub stopped : NoCommands → Stop
-stopped none.Malformed = Refused MalformedCommand
-stopped (none.NoMemory e) = NoMemory e

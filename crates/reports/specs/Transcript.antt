@@ -27,6 +27,11 @@ abbrev pub each_told : {A : Type 0} → (ℕ → A → ask.Exchange) → ℕ →
 each_told f i [] = []
 each_told f i (a ∷ rest) = f i a ∷ each_told f (i + 1) rest
 
+-- each item answers at its index, from the index i on
+abbrev pub EachAnswers : {A : Type 0} → (ℕ → A → Type 0) → ℕ → List A → Type 0
+EachAnswers P i [] = Unit {0}
+EachAnswers P i (a ∷ rest) = P i a × EachAnswers P (i + 1) rest
+
 -- the units of the value at s, each asked for and told
 abbrev pub units_told : ℕ → List ℕ → List ask.Exchange
 units_told s us = each_told (λ i u. ask.says (ask.unit s i) (ask.united u)) 0 us

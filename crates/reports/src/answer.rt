@@ -1,16 +1,17 @@
 // An input, from its bytes to its report.
 ghost use Rattle.std.specs.Prelude.{◌≡◌, Ok, Err, IfOk, MatchResult};
 ghost use Rattle.refusals.specs.declared.Refusal.{Refusal};
+ghost use Rattle.refusals.specs.declared.failure.Failure.TheVariants.{Refused};
 ghost use Rattle.session.specs.Scans.{bytes_of};
 ghost use Rattle.reports.specs.Answers.{Answers, LivedThrough};
 
 use super::play::play;
 use super::report::{Output, Report};
-use super::stop::Stop;
 use commands::commands_of;
 use commands::kinds::Command;
-use faults::{Fault, FaultKind};
+use faults::Fault;
 use refusals::Refusal;
+use refusals::failure::Failure;
 use session::Session;
 use slots::Slot;
 use source::text::Text;
@@ -26,16 +27,16 @@ pub fn answer(heap: Global, input: &[u8]) -> Result<Output, AllocError>
 {
     match report_of(heap, input) {
         Ok(report) => Ok(Output(Ok(report))),
-        Err(Stop::Refused(refusal)) => Ok(Output(Err(refusal))),
-        Err(Stop::NoMemory(error)) => Err(error),
+        Err(Failure::Refused(refusal)) => Ok(Output(Err(refusal))),
+        Err(Failure::NoMemory(error)) => Err(error),
     }
 }
 
-fn report_of(heap: Global, input: &[u8]) -> Result<Report, Stop>
-    ensures { MatchResult result (λ report. Answers input.now (Ok report)) (λ stop. (e : Refusal) → stop ≡ Stop.Refused e → Answers input.now (Err e)) }
+fn report_of(heap: Global, input: &[u8]) -> Result<Report, Failure>
+    ensures { MatchResult result (λ report. Answers input.now (Ok report)) (λ failure. (e : Refusal) → failure ≡ Refused e → Answers input.now (Err e)) }
 {
     if input.len() > MOST {
-        return Err(Stop::Refused(Refusal::TooLong));
+        return Err(Refusal::TooLong.into());
     }
     let (commands, bytes) = commands_of(heap, input)?;
     let text = Text::try_from(bytes)?;
@@ -52,12 +53,7 @@ fn perform_all(heap: Global, text: Text<'_>, commands: &[Command]) -> Result<Rep
     let mut store = Units::new(&mut cells, &mut ends);
     let mut strings = [Slot::new(0usize); 64];
     let mut templates = [Slot::new(Some(0usize)); 64];
-    let blank = Fault {
-        kind: FaultKind::Unterminated,
-        from: 0,
-        to: 0,
-    };
-    let mut records = [blank; 64];
+    let mut records = [Fault::default(); 64];
     let mut session = Session::new(&mut store, &mut strings, &mut templates, &mut records);
     play(heap, &mut session, &mut store, text, commands)
 }

@@ -1,13 +1,14 @@
 // One command: a scan, or a value asked for unit by unit.
-ghost use Rattle.std.specs.Prelude.{◌≡◌, ℕ, true, List, [], ◌∷◌, length, IfOk};
+ghost use Rattle.std.specs.Prelude.{◌≡◌, ℕ, ◌<◌, true, List, [], ◌∷◌, length, Ok, Result, IfOk, IsOk};
+ghost use Rattle.refusals.specs.declared.Refusal.{Refusal};
 ghost use Rattle.store.specs.Held.{dropped};
 ghost use Rattle.ledger.specs.Calls as ask;
 ghost use Rattle.ledger.specs.Ledger.{kept_at, value_asked};
 ghost use Rattle.session.specs.Views.{ledger_of};
 ghost use Rattle.session.specs.Scans.{bytes_of};
-ghost use Rattle.session.specs.Replies.{token_reply};
-ghost use Rattle.session.specs.Calls.{Carries};
-ghost use Rattle.reports.specs.Transcript.{told_of, exchanges, units_told, all_faults_told};
+ghost use Rattle.session.specs.Replies.{token_reply, unit_reply, fault_reply};
+ghost use Rattle.session.specs.Calls.{Carries, Asks};
+ghost use Rattle.reports.specs.Transcript.{told_of, exchanges, units_told, all_faults_told, EachAnswers};
 
 use super::report::Told;
 use commands::kinds::{Command, Word};
@@ -19,7 +20,8 @@ use std::alloc::{AllocError, Global};
 use store::ValueStore;
 use tokens::Token;
 
-// Performs one command.
+// Performs one command. The heap, the session, the store and the text are no struct here and below: a session is handed
+// its store and text at each call by a rule of the project, and the heap goes to what allocates.
 pub fn carry_out<S: ValueStore>(
     heap: Global,
     session: &mut Session<'_>,
@@ -74,13 +76,13 @@ fn ask_units<S: ValueStore>(
     requires { ask.valued true many ≡ value_asked (kept_at (ledger_of session.now (dropped (S.ValueStore.held store.now))) start) }
     ensures { IfOk result (λ units. (length units.items ≡ many) × ((text : List ℕ) → Carries S.ValueStore.weight text session.now (S.ValueStore.held store.now) (units_told start units.items) session.now (S.ValueStore.held store.now))) }
 {
-    let mut units = Vec::new(heap);
-    // a loop, since a closure for map and collect would have to state the law of each question
-    for index in 0..many {
-        let unit = session.unit(store, start, index).unwrap();
-        units.push(unit)?;
-    }
-    Ok(units)
+    ask_all(
+        heap,
+        many,
+        |index|
+            ensures { Asks S.ValueStore.weight (ask.unit start index) session.entry.now (S.ValueStore.held store.entry.now) (unit_reply result) }
+        { session.unit(store, start, index) },
+    )
 }
 
 // Asks how many faults are recorded, and then for each of them.
@@ -91,11 +93,30 @@ pub fn ask_faults<S: ValueStore>(
 ) -> Result<Vec<Fault>, AllocError>
     ensures { IfOk result (λ faults. (text : List ℕ) → Carries S.ValueStore.weight text session.now (S.ValueStore.held store.now) (all_faults_told faults.items) session.now (S.ValueStore.held store.now)) }
 {
-    let mut faults = Vec::new(heap);
-    // a loop here too, for the same reason
-    for index in 0..session.fault_count(store) {
-        let fault = session.fault_at(store, index).unwrap();
-        faults.push(fault)?;
+    let many = session.fault_count(store);
+    ask_all(
+        heap,
+        many,
+        |index|
+            ensures { Asks S.ValueStore.weight (ask.fault_at index) session.entry.now (S.ValueStore.held store.entry.now) (fault_reply result) }
+        { session.fault_at(store, index) },
+    )
+}
+
+// Asks a question at each index below `many`, where each is answered.
+fn ask_all<T: Drop, F: Fn(usize) -> Result<T, Refusal>>(
+    heap: Global,
+    many: usize,
+    ask: F,
+) -> Result<Vec<T>, AllocError>
+    requires callable { F.IsAlwaysCallable ask }
+    requires answered { (index : ℕ) (answer : Result T Refusal) → index < many → F.post ask index answer → IsOk answer }
+    ensures { IfOk result (λ items. (length items.items ≡ many) × EachAnswers (λ index item. F.post ask index (Ok item)) 0 items.items) }
+{
+    let mut items = Vec::new(heap);
+    for index in 0..many {
+        let item = ask(index).unwrap();
+        items.push(item)?;
     }
-    Ok(faults)
+    Ok(items)
 }

@@ -6,4 +6,3 @@ mod ask;
 pub mod play;
 pub mod print;
 pub mod report;
-mod stop;

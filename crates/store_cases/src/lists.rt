@@ -76,12 +76,7 @@ pub fn replay_faults(
     room: usize,
     calls: &str,
 ) -> anyhow::Result<()> {
-    let blank = Fault {
-        kind: FaultKind::Unterminated,
-        from: 0,
-        to: 0,
-    };
-    let mut records = vec![in heap; blank; room]?;
+    let mut records = vec![in heap; Fault::default(); room]?;
     let mut list = FaultList::new(records.as_mut_slice());
     write_answers(text, calls, |call| Told(act_faults(&mut list, call)))
 }
