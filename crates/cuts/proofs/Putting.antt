@@ -1,12 +1,19 @@
 -- Cells put behind some of the open list, one after another. Assumes nothing.
-use Rattle.std.proofs.Common.{◌≡◌, ℕ, ◌+◌, ◌≤◌, min, List, [], ◌++◌, length, take, drop, sym, ap, ◌∙◌, ⊎_elim, arith}
+use Rattle.std.proofs.Common.{◌≡◌, ℕ, ◌+◌, ◌≤◌, min, Bool, true, false, cond, Ok, Err, List, [], ◌++◌, length, take, drop, refl, sym, ap, ◌∙◌, ⊎_elim, arith}
 use Rattle.std.proofs.lemmas.List.{length-take, take_all, drop-take, append-nil}
 use Rattle.std.proofs.lemmas.Bool.{cases_lt}
+use Rattle.refusals.specs.Numbers.{number_of, numbered}
+use Rattle.refusals.specs.declared.Refusal.{Refusal}
 use Rattle.store.specs.Cuts.{cut, final}
 use Rattle.store.proofs.Parts.{cut_length}
 use Rattle.cuts.proofs.Cutting.{open_length, cut_less}
 use Rattle.cuts.specs.declared.lists.Cuts.{Cuts}
 use Rattle.cuts.specs.Lists.{memory, table, used, marks, finished, lists, opened, capacity_of, places_of}
+
+-- an answer told by number, where there is room and where there is none
+pub by_number : {A : Type 0} (b : Bool) (a : A) (e : Refusal) → numbered (cond b (Ok a) (Err e)) ≡ cond b (Ok a) (Err (number_of e))
+by_number true a e = refl
+by_number false a e = refl
 
 module _ {T : Type 0} where
   -- c' is c with another open list
