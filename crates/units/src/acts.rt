@@ -1,5 +1,6 @@
 ghost use Rattle.std.specs.Prelude.{◌≡◌, ◌<◌, ◌≤◌, [], length, if◌then◌else◌, Ok, Err, MatchResult, slice_index_or};
-ghost use Rattle.refusals.specs.Numbers.{number_of, numbered};
+ghost use Rattle.refusals.specs.Numbers.{numbered};
+ghost use Rattle.refusals.specs.declared.Refusal.TheVariants.{IndexPastEnd};
 ghost use Rattle.store.specs.Held.{fits, with_unit, has_place, closed, dropped, unit_told};
 ghost use Rattle.store.specs.Leaves.{PutLeaves, CloseLeaves, LeavesAll};
 ghost use Rattle.units.specs.Views.{cells, ends, finished, meaning};
@@ -86,7 +87,7 @@ impl<'a> ValueStore for Units<'a> {
 impl<'a> Units<'a> {
     // The units of finished value `n`.
     pub fn units_of(&self, n: usize) -> Result<&[u16], Refusal>
-        ensures { MatchResult result (λ units. (n < length (meaning self.now).values) × (units.now ≡ slice_index_or (meaning self.now).values n [])) (λ e. (length (meaning self.now).values ≤ n) × (number_of e ≡ 5)) }
+        ensures { MatchResult result (λ units. (n < length (meaning self.now).values) × (units.now ≡ slice_index_or (meaning self.now).values n [])) (λ e. (length (meaning self.now).values ≤ n) × (e ≡ IndexPastEnd)) }
     {
         self.cuts.part(n)
     }

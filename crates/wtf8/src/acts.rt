@@ -1,5 +1,6 @@
 ghost use Rattle.std.specs.Prelude.{◌≡◌, ◌<◌, ◌≤◌, [], length, if◌then◌else◌, Ok, Err, MatchResult, slice_index_or};
-ghost use Rattle.refusals.specs.Numbers.{number_of, numbered};
+ghost use Rattle.refusals.specs.Numbers.{numbered};
+ghost use Rattle.refusals.specs.declared.Refusal.TheVariants.{IndexPastEnd};
 ghost use Rattle.store.specs.Held.{fits, with_unit, has_place, closed, dropped};
 ghost use Rattle.store.specs.Leaves.{PutLeaves, CloseLeaves, LeavesAll};
 ghost use Rattle.coding.specs.Codes.{weight, wtf8};
@@ -102,7 +103,7 @@ impl<'a> Wtf8<'a> {
 
     // Where the bytes of finished value `n` stand in all bytes.
     pub fn place_of(&self, n: usize) -> Result<Place, Refusal>
-        ensures { MatchResult result (λ p. IsPlace self.now n p.from p.len) (λ e. (length (meaning self.now).values ≤ n) × (number_of e ≡ 5)) }
+        ensures { MatchResult result (λ p. IsPlace self.now n p.from p.len) (λ e. (length (meaning self.now).values ≤ n) × (e ≡ IndexPastEnd)) }
     {
         let place = self.cuts.place(n)?;
         Ok(Place {
@@ -113,7 +114,7 @@ impl<'a> Wtf8<'a> {
 
     // The bytes of finished value `n`.
     pub fn bytes_of(&self, n: usize) -> Result<&[u8], Refusal>
-        ensures { MatchResult result (λ b. (n < length (meaning self.now).values) × (b.now ≡ wtf8 (slice_index_or (meaning self.now).values n []))) (λ e. (length (meaning self.now).values ≤ n) × (number_of e ≡ 5)) }
+        ensures { MatchResult result (λ b. (n < length (meaning self.now).values) × (b.now ≡ wtf8 (slice_index_or (meaning self.now).values n []))) (λ e. (length (meaning self.now).values ≤ n) × (e ≡ IndexPastEnd)) }
     {
         self.cuts.part(n)
     }
