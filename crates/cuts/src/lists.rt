@@ -18,7 +18,7 @@ pub struct Cuts<'a, T> {
 }
 
 impl<'a, T: Copy> Cuts<'a, T> {
-    ghost use Rattle.cuts.specs.Lists.{memory, table, used, marks, finished, lists, opened, capacity_of, places_of, has_cell, takes, has_place, IsPlace};
+    ghost use Rattle.cuts.specs.Lists.{memory, table, used, marks, finished, lists, opened, capacity_of, places_of, has_cell, takes, has_place, Stays, SameLists, IsPlace};
 
     // No list, and an empty one open. No cell is written.
     pub fn new(cells: &'a mut [T], ends: &'a mut [usize]) -> Cuts<'a, T>
@@ -90,12 +90,9 @@ impl<'a, T: Copy> Cuts<'a, T> {
         ensures answer { result ≡ (if has_cell self.old then Ok tt else Err NoCapacity) }
         ensures cells { used self.new ≡ (if has_cell self.old then used self.old ++ (item ∷ []) else used self.old) }
         ensures draft { opened self.new ≡ (if has_cell self.old then opened self.old ++ (item ∷ []) else opened self.old) }
-        ensures lists { lists self.new ≡ lists self.old }
-        ensures marks { marks self.new ≡ marks self.old }
-        ensures capacity { capacity_of self.new ≡ capacity_of self.old }
-        ensures places { places_of self.new ≡ places_of self.old }
+        ensures lists { SameLists self.old self.new }
+        ensures stays { Stays self.old self.new }
         ensures leaves { PutLeaves (has_cell self.old) (finished self.old) (memory self.old) (memory self.new) (table self.old) (table self.new) }
-        ensures lent { (self.new.cells.memory.ghost_name ≡ self.old.cells.memory.ghost_name) × (self.new.ends.memory.ghost_name ≡ self.old.ends.memory.ghost_name) }
     {
         self.cells.push(item).map_err(|_| Refusal::NoCapacity)
     }
@@ -104,12 +101,9 @@ impl<'a, T: Copy> Cuts<'a, T> {
     pub fn put_behind(&mut self, kept: usize, items: &[T]) -> Result<(), Refusal>
         ensures answer { result ≡ (if takes self.old (take kept (opened self.old) ++ items.now) then Ok tt else Err NoCapacity) }
         ensures draft { opened self.new ≡ (if takes self.old (take kept (opened self.old) ++ items.now) then take kept (opened self.old) ++ items.now else opened self.old) }
-        ensures lists { lists self.new ≡ lists self.old }
-        ensures marks { marks self.new ≡ marks self.old }
-        ensures capacity { capacity_of self.new ≡ capacity_of self.old }
-        ensures places { places_of self.new ≡ places_of self.old }
+        ensures lists { SameLists self.old self.new }
+        ensures stays { Stays self.old self.new }
         ensures leaves { PutLeaves (takes self.old (take kept (opened self.old) ++ items.now)) (finished self.old) (memory self.old) (memory self.new) (table self.old) (table self.new) }
-        ensures lent { (self.new.cells.memory.ghost_name ≡ self.old.cells.memory.ghost_name) × (self.new.ends.memory.ghost_name ≡ self.old.ends.memory.ghost_name) }
     {
         let from = self.open_start() + self.open().len().min(kept);
         if items.len() > self.capacity() - from {
@@ -129,10 +123,8 @@ impl<'a, T: Copy> Cuts<'a, T> {
         ensures cells { used self.new ≡ used self.old }
         ensures lists { lists self.new ≡ (if has_place self.old then lists self.old ++ (opened self.old ∷ []) else lists self.old) }
         ensures draft { opened self.new ≡ (if has_place self.old then [] else opened self.old) }
-        ensures capacity { capacity_of self.new ≡ capacity_of self.old }
-        ensures places { places_of self.new ≡ places_of self.old }
+        ensures stays { Stays self.old self.new }
         ensures leaves { CloseLeaves (has_place self.old) (length (lists self.old)) (memory self.old) (memory self.new) (table self.old) (table self.new) }
-        ensures lent { (self.new.cells.memory.ghost_name ≡ self.old.cells.memory.ghost_name) × (self.new.ends.memory.ghost_name ≡ self.old.ends.memory.ghost_name) }
     {
         let number = self.count();
         let end = self.cells.len();
@@ -143,13 +135,10 @@ impl<'a, T: Copy> Cuts<'a, T> {
     // Empties the open list.
     pub fn drop_open(&mut self)
         ensures cells { used self.new ≡ take (finished self.old) (used self.old) }
-        ensures lists { lists self.new ≡ lists self.old }
-        ensures marks { marks self.new ≡ marks self.old }
+        ensures lists { SameLists self.old self.new }
         ensures draft { opened self.new ≡ [] }
-        ensures capacity { capacity_of self.new ≡ capacity_of self.old }
-        ensures places { places_of self.new ≡ places_of self.old }
+        ensures stays { Stays self.old self.new }
         ensures leaves { LeavesAll (memory self.old) (memory self.new) (table self.old) (table self.new) }
-        ensures lent { (self.new.cells.memory.ghost_name ≡ self.old.cells.memory.ghost_name) × (self.new.ends.memory.ghost_name ≡ self.old.ends.memory.ghost_name) }
     {
         let start = self.open_start();
         self.cells.truncate(start);

@@ -3,6 +3,7 @@ ghost use Rattle.refusals.specs.Numbers.{numbered};
 ghost use Rattle.refusals.specs.declared.Refusal.TheVariants.{IndexPastEnd};
 ghost use Rattle.store.specs.Held.{fits, with_unit, has_place, closed, dropped, unit_told};
 ghost use Rattle.store.specs.Leaves.{PutLeaves, CloseLeaves, LeavesAll};
+ghost use Rattle.cuts.specs.Lists.{SameLent};
 ghost use Rattle.units.specs.Views.{cells, ends, finished, meaning};
 ghost use Rattle.units.specs.Law.{units_lawful};
 
@@ -21,7 +22,7 @@ impl<'a> ValueStore for Units<'a> {
         ensures answer { numbered result ≡ (if fits length (meaning self.old) unit then Ok tt else Err 12) }
         ensures after { meaning self.new ≡ (if fits length (meaning self.old) unit then with_unit (meaning self.old) unit else meaning self.old) }
         ensures leaves { PutLeaves (fits length (meaning self.old) unit) (finished self.old) (cells self.old) (cells self.new) (ends self.old) (ends self.new) }
-        ensures lent { (self.new.cuts.cells.memory.ghost_name ≡ self.old.cuts.cells.memory.ghost_name) × (self.new.cuts.ends.memory.ghost_name ≡ self.old.cuts.ends.memory.ghost_name) }
+        ensures lent { SameLent self.old.cuts self.new.cuts }
     {
         self.cuts.push(unit)
     }
@@ -30,7 +31,7 @@ impl<'a> ValueStore for Units<'a> {
         ensures answer { numbered result ≡ (if has_place (meaning self.old) then Ok (length (meaning self.old).values) else Err 11) }
         ensures after { meaning self.new ≡ (if has_place (meaning self.old) then closed (meaning self.old) else meaning self.old) }
         ensures leaves { CloseLeaves (has_place (meaning self.old)) (length (meaning self.old).values) (cells self.old) (cells self.new) (ends self.old) (ends self.new) }
-        ensures lent { (self.new.cuts.cells.memory.ghost_name ≡ self.old.cuts.cells.memory.ghost_name) × (self.new.cuts.ends.memory.ghost_name ≡ self.old.cuts.ends.memory.ghost_name) }
+        ensures lent { SameLent self.old.cuts self.new.cuts }
     {
         self.cuts.close()
     }
@@ -38,7 +39,7 @@ impl<'a> ValueStore for Units<'a> {
     fn drop_open(&mut self)
         ensures after { meaning self.new ≡ dropped (meaning self.old) }
         ensures leaves { LeavesAll (cells self.old) (cells self.new) (ends self.old) (ends self.new) }
-        ensures lent { (self.new.cuts.cells.memory.ghost_name ≡ self.old.cuts.cells.memory.ghost_name) × (self.new.cuts.ends.memory.ghost_name ≡ self.old.cuts.ends.memory.ghost_name) }
+        ensures lent { SameLent self.old.cuts self.new.cuts }
     {
         self.cuts.drop_open();
     }

@@ -4,6 +4,7 @@ ghost use Rattle.refusals.specs.declared.Refusal.TheVariants.{IndexPastEnd};
 ghost use Rattle.store.specs.Held.{fits, with_unit, has_place, closed, dropped};
 ghost use Rattle.store.specs.Leaves.{PutLeaves, CloseLeaves, LeavesAll};
 ghost use Rattle.coding.specs.Codes.{weight, wtf8};
+ghost use Rattle.cuts.specs.Lists.{SameLent};
 ghost use Rattle.wtf8.specs.Views.{cells, ends, finished, opened, all_bytes, meaning, IsPlace};
 ghost use Rattle.wtf8.specs.Law.{wtf8_lawful};
 
@@ -30,7 +31,7 @@ impl<'a> ValueStore for Wtf8<'a> {
         ensures answer { numbered result ≡ (if fits weight (meaning self.old) unit then Ok tt else Err 12) }
         ensures after { meaning self.new ≡ (if fits weight (meaning self.old) unit then with_unit (meaning self.old) unit else meaning self.old) }
         ensures leaves { PutLeaves (fits weight (meaning self.old) unit) (finished self.old) (cells self.old) (cells self.new) (ends self.old) (ends self.new) }
-        ensures lent { (self.new.cuts.cells.memory.ghost_name ≡ self.old.cuts.cells.memory.ghost_name) × (self.new.cuts.ends.memory.ghost_name ≡ self.old.cuts.ends.memory.ghost_name) }
+        ensures lent { SameLent self.old.cuts self.new.cuts }
     {
         let open = self.open_bytes();
         let (kept, code) = completed(last_half(open), open.len(), unit);
@@ -42,7 +43,7 @@ impl<'a> ValueStore for Wtf8<'a> {
         ensures answer { numbered result ≡ (if has_place (meaning self.old) then Ok (length (meaning self.old).values) else Err 11) }
         ensures after { meaning self.new ≡ (if has_place (meaning self.old) then closed (meaning self.old) else meaning self.old) }
         ensures leaves { CloseLeaves (has_place (meaning self.old)) (length (meaning self.old).values) (cells self.old) (cells self.new) (ends self.old) (ends self.new) }
-        ensures lent { (self.new.cuts.cells.memory.ghost_name ≡ self.old.cuts.cells.memory.ghost_name) × (self.new.cuts.ends.memory.ghost_name ≡ self.old.cuts.ends.memory.ghost_name) }
+        ensures lent { SameLent self.old.cuts self.new.cuts }
     {
         self.cuts.close()
     }
@@ -50,7 +51,7 @@ impl<'a> ValueStore for Wtf8<'a> {
     fn drop_open(&mut self)
         ensures after { meaning self.new ≡ dropped (meaning self.old) }
         ensures leaves { LeavesAll (cells self.old) (cells self.new) (ends self.old) (ends self.new) }
-        ensures lent { (self.new.cuts.cells.memory.ghost_name ≡ self.old.cuts.cells.memory.ghost_name) × (self.new.cuts.ends.memory.ghost_name ≡ self.old.cuts.ends.memory.ghost_name) }
+        ensures lent { SameLent self.old.cuts self.new.cuts }
     {
         self.cuts.drop_open();
     }

@@ -20,7 +20,7 @@ pub returns-clause-after : goal.returns-clause-after
 returns-clause-after c =
     let s = c.args.self.now in
     let e = c.push.ensures in
-    held_with s.cuts c.push.new.self c.args.unit (has_cell s.cuts) e.lists e.draft e.places e.capacity ∙ ap (λ b. cond b (with_unit (meaning s) c.args.unit) (meaning s)) (sym (fits_is s.cuts c.args.unit))
+    held_with s.cuts c.push.new.self c.args.unit (has_cell s.cuts) e.lists.lists e.draft e.stays.places e.stays.capacity ∙ ap (λ b. cond b (with_unit (meaning s) c.args.unit) (meaning s)) (sym (fits_is s.cuts c.args.unit))
 
 pub returns-clause-leaves : goal.returns-clause-leaves
 returns-clause-leaves c =

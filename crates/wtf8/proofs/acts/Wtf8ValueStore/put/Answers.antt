@@ -20,7 +20,7 @@ invariant_of-self c =
     let w = put_bytes o c.open_bytes-open.result.now c.last_half.result c.args.unit k.result.0 k.result.1 bytes s.fresh c.open_bytes-open.ensures c.last_half.ensures k.ensures.place k.ensures.code (c.encoded.ensures.bytes k.ensures.small) in
     let b = takes s.cuts (take k.result.0 o ++ bytes) in
     record {
-      whole = ap (map recode) e.lists ∙ s.whole ∙ sym e.lists;
+      whole = ap (map recode) e.lists.lists ∙ s.whole ∙ sym e.lists.lists;
       fresh = fresh_with s.cuts c.put_behind.new.self c.args.unit b c.ranges.unit.fits s.fresh (e.draft ∙ ap (λ t. cond b t o) w);
     }
 
@@ -40,7 +40,7 @@ returns-clause-after c =
     let bytes = c.encoded.result.now in
     let w = put_bytes o c.open_bytes-open.result.now c.last_half.result c.args.unit k.result.0 k.result.1 bytes s.fresh c.open_bytes-open.ensures c.last_half.ensures k.ensures.place k.ensures.code (c.encoded.ensures.bytes k.ensures.small) in
     let b = takes s.cuts (take k.result.0 o ++ bytes) in
-    held_with s.cuts c.put_behind.new.self c.args.unit b c.ranges.unit.fits e.lists (e.draft ∙ ap (λ t. cond b t o) w) e.places e.capacity
+    held_with s.cuts c.put_behind.new.self c.args.unit b c.ranges.unit.fits e.lists.lists (e.draft ∙ ap (λ t. cond b t o) w) e.stays.places e.stays.capacity
     ∙ ap (λ b. cond b (with_unit (meaning s) c.args.unit) (meaning s)) (ap (takes s.cuts) w ∙ sym (fits_is s c.args.unit))
 
 pub returns-clause-leaves : goal.returns-clause-leaves
