@@ -1,4 +1,4 @@
-ghost use Rattle.std.specs.Prelude.{◌≡◌, ◌<◌, ◌≤◌, [], length, if◌then◌else◌, Ok, Err, MatchResult, slice_index_or};
+ghost use Rattle.std.specs.Prelude.{◌≡◌, ◌<◌, ◌≤◌, ◌-◌, [], length, if◌then◌else◌, Ok, Err, MatchResult, slice_index_or};
 ghost use Rattle.refusals.specs.Numbers.{numbered};
 ghost use Rattle.refusals.specs.declared.Refusal.TheVariants.{IndexPastEnd};
 ghost use Rattle.store.specs.Held.{fits, with_unit, has_place, closed, dropped};
@@ -11,6 +11,7 @@ ghost use Rattle.wtf8.specs.Law.{wtf8_lawful};
 use super::Wtf8;
 use coding::{completed, encoded, last_half, read_units, unit_at, unit_count};
 use refusals::Refusal;
+use std::ops::Range;
 use store::ValueStore;
 
 // Where a value's bytes stand in all stored bytes.
@@ -18,6 +19,17 @@ use store::ValueStore;
 pub struct Place {
     pub from: usize,
     pub len: usize,
+}
+
+impl From<Range<usize>> for Place {
+    ghost from_gives = { λ range place. (place.from ≡ range.start) × (place.len ≡ range.end - range.start) };
+
+    fn from(range: Range<usize>) -> Place {
+        Place {
+            from: range.start,
+            len: range.len(),
+        }
+    }
 }
 
 impl<'a> ValueStore for Wtf8<'a> {
@@ -106,11 +118,7 @@ impl<'a> Wtf8<'a> {
     pub fn place_of(&self, n: usize) -> Result<Place, Refusal>
         ensures { MatchResult result (λ p. IsPlace self.now n p.from p.len) (λ e. (length (meaning self.now).values ≤ n) × (e ≡ IndexPastEnd)) }
     {
-        let place = self.cuts.place(n)?;
-        Ok(Place {
-            from: place.start,
-            len: place.end - place.start,
-        })
+        self.cuts.place(n).map(Place::from)
     }
 
     // The bytes of finished value `n`.
