@@ -183,7 +183,7 @@ pub fn read_units(bytes: &[u8], out: &mut [u16]) -> Result<usize, Refusal>
     if many > out.len() {
         return Err(Refusal::IndexPastEnd);
     }
-    // an index, since after writes through `iter_mut` no proof knows the elements
+    // the units by index, since a proof loses what a zip over iter_mut writes
     for (i, unit) in Utf16::new(bytes).enumerate() {
         out[i] = unit;
     }

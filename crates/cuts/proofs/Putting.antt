@@ -1,21 +1,26 @@
 -- Cells put behind some of the open list, one after another. Assumes nothing.
-use Rattle.std.proofs.Common.{◌≡◌, ℕ, ◌+◌, ◌≤◌, min, List, [], ◌++◌, length, take, drop, sym, ap, ◌∙◌, ⊎_elim, arith}
+use Rattle.std.proofs.Common.{◌≡◌, ℕ, ◌+◌, ◌≤◌, min, Bool, true, false, cond, Ok, Err, List, [], ◌++◌, length, take, drop, refl, sym, ap, ◌∙◌, ⊎_elim, arith}
 use Rattle.std.proofs.lemmas.List.{length-take, take_all, drop-take, append-nil}
 use Rattle.std.proofs.lemmas.Bool.{cases_lt}
+use Rattle.refusals.specs.Numbers.{number_of, numbered}
+use Rattle.refusals.specs.declared.Refusal.{Refusal}
 use Rattle.store.specs.Cuts.{cut, final}
 use Rattle.store.proofs.Parts.{cut_length}
 use Rattle.cuts.proofs.Cutting.{open_length, cut_less}
 use Rattle.cuts.specs.declared.lists.Cuts.{Cuts}
-use Rattle.cuts.specs.Lists.{memory, table, used, marks, finished, lists, opened, capacity_of, places_of}
+use Rattle.cuts.specs.Lists.{memory, table, used, marks, finished, lists, opened, capacity_of, places_of, SameLent, Stays, SameLists}
+
+-- an answer told by number, where there is room and where there is none
+pub by_number : {A : Type 0} (b : Bool) (a : A) (e : Refusal) → numbered (cond b (Ok a) (Err e)) ≡ cond b (Ok a) (Err (number_of e))
+by_number true a e = refl
+by_number false a e = refl
 
 module _ {T : Type 0} where
   -- c' is c with another open list
   pub record Behind (c c' : Cuts T) (us : List T) : Type 0 where
     pub draft : opened c' ≡ us
-    pub same_marks : marks c' ≡ marks c
-    pub same_lists : lists c' ≡ lists c
-    pub capacity : capacity_of c' ≡ capacity_of c
-    pub places : places_of c' ≡ places_of c
+    pub same_lists : SameLists c c'
+    pub stays : Stays c c'
     pub same_table : table c' ≡ table c
     pub front : take (finished c) (memory c') ≡ take (finished c) (memory c)
     pub past : drop 1048576 (memory c') ≡ drop 1048576 (memory c)
@@ -39,18 +44,16 @@ module _ {T : Type 0} where
       (cases_lt (length us) k)
 
   -- only the cells that are kept
-  pub behind_none : (c c' : Cuts T) (k from : ℕ) → from ≡ finished c + min (length (opened c)) k → marks c' ≡ marks c → used c' ≡ take from (used c) → memory c' ≡ memory c → table c' ≡ table c → Behind c c' (take k (opened c) ++ [])
-  behind_none c c' k from f m u e t = record {
+  pub behind_none : (c c' : Cuts T) (k from : ℕ) → from ≡ finished c + min (length (opened c)) k → marks c' ≡ marks c → used c' ≡ take from (used c) → memory c' ≡ memory c → table c' ≡ table c → SameLent c c' → Behind c c' (take k (opened c) ++ [])
+  behind_none c c' k from f m u e t n = record {
     draft =
         (λ j. drop (final 0 (m j)) (u j))
-        ∙ ap (λ n. drop (finished c) (take n (used c))) f
+        ∙ ap (λ i. drop (finished c) (take i (used c))) f
         ∙ drop-take (finished c) (min (length (opened c)) k) (used c)
         ∙ take_most k (opened c)
         ∙ sym (append-nil (take k (opened c)));
-    same_marks = m;
-    same_lists = (λ j. cut (u j) 0 (m j)) ∙ cut_less (used c) (marks c) c.rising from (omega arith);
-    capacity = ap (λ t. min (length t) 1048576) e;
-    places = ap (λ t. min (length t) 4096) t;
+    same_lists = record { lists = (λ j. cut (u j) 0 (m j)) ∙ cut_less (used c) (marks c) c.rising from (omega arith); marks = m };
+    stays = record { capacity = ap (λ t. min (length t) 1048576) e; places = ap (λ t. min (length t) 4096) t; lent = n };
     same_table = t;
     front = ap (take (finished c)) e;
     past = ap (drop 1048576) e;

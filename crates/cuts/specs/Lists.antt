@@ -45,6 +45,21 @@ takes c us = nat_le (finished c + length us) (capacity_of c)
 abbrev pub has_place : {T : Type 0} → Cuts T → Bool
 has_place c = nat_lt (length (lists c)) (places_of c)
 
+-- the same memory is lent
+abbrev pub SameLent : {T : Type 0} → Cuts T → Cuts T → Type 0
+SameLent c c' = (c'.cells.memory.ghost_name ≡ c.cells.memory.ghost_name) × (c'.ends.memory.ghost_name ≡ c.ends.memory.ghost_name)
+
+-- what every change leaves as it was: the memory lent, and how many cells and lists there may be
+pub record Stays {T : Type 0} (c c' : Cuts T) : Type 0 where
+  pub capacity : capacity_of c' ≡ capacity_of c
+  pub places : places_of c' ≡ places_of c
+  pub lent : SameLent c c'
+
+-- and what a change to the open list alone leaves: the finished lists, and where each ends
+pub record SameLists {T : Type 0} (c c' : Cuts T) : Type 0 where
+  pub lists : lists c' ≡ lists c
+  pub marks : marks c' ≡ marks c
+
 -- list n has the cells from a place to another
 pub record IsPlace {T : Type 0} (c : Cuts T) (n from to : ℕ) : Type 0 where
   pub there : n < length (lists c)

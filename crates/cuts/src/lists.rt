@@ -1,5 +1,5 @@
 ghost use Rattle.std.specs.Prelude.{◌≡◌, ◌<◌, ◌≤◌, true, [], ◌∷◌, ◌++◌, length, take, if◌then◌else◌, Ok, Err, MatchResult, slice_index_or};
-ghost use Rattle.refusals.specs.Numbers.{number_of, numbered};
+ghost use Rattle.refusals.specs.declared.Refusal.TheVariants.{IndexPastEnd, NoPlace, NoCapacity};
 ghost use Rattle.lent.specs.Items.{items_of};
 ghost use Rattle.store.specs.Cuts.{final, ordered};
 ghost use Rattle.store.specs.Leaves.{PutLeaves, CloseLeaves, LeavesAll};
@@ -18,7 +18,7 @@ pub struct Cuts<'a, T> {
 }
 
 impl<'a, T: Copy> Cuts<'a, T> {
-    ghost use Rattle.cuts.specs.Lists.{memory, table, used, marks, finished, lists, opened, capacity_of, places_of, has_cell, takes, has_place, IsPlace};
+    ghost use Rattle.cuts.specs.Lists.{memory, table, used, marks, finished, lists, opened, capacity_of, places_of, has_cell, takes, has_place, Stays, SameLists, IsPlace};
 
     // No list, and an empty one open. No cell is written.
     pub fn new(cells: &'a mut [T], ends: &'a mut [usize]) -> Cuts<'a, T>
@@ -71,17 +71,15 @@ impl<'a, T: Copy> Cuts<'a, T> {
 
     // Where finished list `n` stands in all cells.
     pub fn place(&self, n: usize) -> Result<Range<usize>, Refusal>
-        ensures { MatchResult result (λ p. IsPlace self.now n p.start p.end) (λ e. (length (lists self.now) ≤ n) × (number_of e ≡ 5)) }
+        ensures { MatchResult result (λ p. IsPlace self.now n p.start p.end) (λ e. (length (lists self.now) ≤ n) × (e ≡ IndexPastEnd)) }
     {
-        let Some(end) = self.ends.as_slice().get(n) else {
-            return Err(Refusal::IndexPastEnd);
-        };
-        Ok(self.start_of(n)..*end)
+        let end = *self.ends.as_slice().get(n).ok_or(Refusal::IndexPastEnd)?;
+        Ok(self.start_of(n)..end)
     }
 
     // The cells of finished list `n`.
     pub fn part(&self, n: usize) -> Result<&[T], Refusal>
-        ensures { MatchResult result (λ us. (n < length (lists self.now)) × (us.now ≡ slice_index_or (lists self.now) n [])) (λ e. (length (lists self.now) ≤ n) × (number_of e ≡ 5)) }
+        ensures { MatchResult result (λ us. (n < length (lists self.now)) × (us.now ≡ slice_index_or (lists self.now) n [])) (λ e. (length (lists self.now) ≤ n) × (e ≡ IndexPastEnd)) }
     {
         let place = self.place(n)?;
         Ok(&self.all()[place])
@@ -89,29 +87,23 @@ impl<'a, T: Copy> Cuts<'a, T> {
 
     // One cell more in the open list.
     pub fn push(&mut self, item: T) -> Result<(), Refusal>
-        ensures answer { numbered result ≡ (if has_cell self.old then Ok tt else Err 12) }
+        ensures answer { result ≡ (if has_cell self.old then Ok tt else Err NoCapacity) }
         ensures cells { used self.new ≡ (if has_cell self.old then used self.old ++ (item ∷ []) else used self.old) }
         ensures draft { opened self.new ≡ (if has_cell self.old then opened self.old ++ (item ∷ []) else opened self.old) }
-        ensures lists { lists self.new ≡ lists self.old }
-        ensures marks { marks self.new ≡ marks self.old }
-        ensures capacity { capacity_of self.new ≡ capacity_of self.old }
-        ensures places { places_of self.new ≡ places_of self.old }
+        ensures lists { SameLists self.old self.new }
+        ensures stays { Stays self.old self.new }
         ensures leaves { PutLeaves (has_cell self.old) (finished self.old) (memory self.old) (memory self.new) (table self.old) (table self.new) }
-        ensures lent { (self.new.cells.memory.ghost_name ≡ self.old.cells.memory.ghost_name) × (self.new.ends.memory.ghost_name ≡ self.old.ends.memory.ghost_name) }
     {
         self.cells.push(item).map_err(|_| Refusal::NoCapacity)
     }
 
     // Keeps the first `kept` cells of the open list and puts these items behind them, or changes nothing where they do not all fit.
     pub fn put_behind(&mut self, kept: usize, items: &[T]) -> Result<(), Refusal>
-        ensures answer { numbered result ≡ (if takes self.old (take kept (opened self.old) ++ items.now) then Ok tt else Err 12) }
+        ensures answer { result ≡ (if takes self.old (take kept (opened self.old) ++ items.now) then Ok tt else Err NoCapacity) }
         ensures draft { opened self.new ≡ (if takes self.old (take kept (opened self.old) ++ items.now) then take kept (opened self.old) ++ items.now else opened self.old) }
-        ensures lists { lists self.new ≡ lists self.old }
-        ensures marks { marks self.new ≡ marks self.old }
-        ensures capacity { capacity_of self.new ≡ capacity_of self.old }
-        ensures places { places_of self.new ≡ places_of self.old }
+        ensures lists { SameLists self.old self.new }
+        ensures stays { Stays self.old self.new }
         ensures leaves { PutLeaves (takes self.old (take kept (opened self.old) ++ items.now)) (finished self.old) (memory self.old) (memory self.new) (table self.old) (table self.new) }
-        ensures lent { (self.new.cells.memory.ghost_name ≡ self.old.cells.memory.ghost_name) × (self.new.ends.memory.ghost_name ≡ self.old.ends.memory.ghost_name) }
     {
         let from = self.open_start() + self.open().len().min(kept);
         if items.len() > self.capacity() - from {
@@ -127,14 +119,12 @@ impl<'a, T: Copy> Cuts<'a, T> {
     // Finishes the open list, leaves an empty one open, and answers its number.
     #[tactic(auto, using(store::proofs::Parts::cut_length))]
     pub fn close(&mut self) -> Result<usize, Refusal>
-        ensures answer { numbered result ≡ (if has_place self.old then Ok (length (lists self.old)) else Err 11) }
+        ensures answer { result ≡ (if has_place self.old then Ok (length (lists self.old)) else Err NoPlace) }
         ensures cells { used self.new ≡ used self.old }
         ensures lists { lists self.new ≡ (if has_place self.old then lists self.old ++ (opened self.old ∷ []) else lists self.old) }
         ensures draft { opened self.new ≡ (if has_place self.old then [] else opened self.old) }
-        ensures capacity { capacity_of self.new ≡ capacity_of self.old }
-        ensures places { places_of self.new ≡ places_of self.old }
+        ensures stays { Stays self.old self.new }
         ensures leaves { CloseLeaves (has_place self.old) (length (lists self.old)) (memory self.old) (memory self.new) (table self.old) (table self.new) }
-        ensures lent { (self.new.cells.memory.ghost_name ≡ self.old.cells.memory.ghost_name) × (self.new.ends.memory.ghost_name ≡ self.old.ends.memory.ghost_name) }
     {
         let number = self.count();
         let end = self.cells.len();
@@ -145,13 +135,10 @@ impl<'a, T: Copy> Cuts<'a, T> {
     // Empties the open list.
     pub fn drop_open(&mut self)
         ensures cells { used self.new ≡ take (finished self.old) (used self.old) }
-        ensures lists { lists self.new ≡ lists self.old }
-        ensures marks { marks self.new ≡ marks self.old }
+        ensures lists { SameLists self.old self.new }
         ensures draft { opened self.new ≡ [] }
-        ensures capacity { capacity_of self.new ≡ capacity_of self.old }
-        ensures places { places_of self.new ≡ places_of self.old }
+        ensures stays { Stays self.old self.new }
         ensures leaves { LeavesAll (memory self.old) (memory self.new) (table self.old) (table self.new) }
-        ensures lent { (self.new.cells.memory.ghost_name ≡ self.old.cells.memory.ghost_name) × (self.new.ends.memory.ghost_name ≡ self.old.ends.memory.ghost_name) }
     {
         let start = self.open_start();
         self.cells.truncate(start);

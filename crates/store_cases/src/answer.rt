@@ -57,6 +57,7 @@ impl From<Place> for Answer {
 
 impl From<Fault> for Answer {
     fn from(fault: Fault) -> Answer {
+        // the kind by number, since fault kinds have numbers by a rule of the project
         Answer::Two(usize::from(fault.kind.number()), fault.to)
     }
 }

@@ -11,11 +11,13 @@ fn act<V: Copy + Drop + Into<Answer>>(
     call: Call<'_>,
     value: V,
 ) -> Result<Answer, Refusal> {
+    // by word, as the data file names a call
     Ok(match call.name {
         "find" => map.find(call.a).map_or(Answer::Unknown, |held| held.into()),
         "insert" => map.insert(call.a, value)?.into(),
         "fill" => (0..call.a)
-            .filter(|start| map.insert(*start, value).is_ok())
+            .map(|start| map.insert(start, value))
+            .filter(Result::is_ok)
             .count()
             .into(),
         "clear" => {
@@ -48,16 +50,19 @@ pub fn replay_maps(
 }
 
 fn act_faults(list: &mut FaultList, call: Call<'_>) -> Result<Answer, Refusal> {
+    // by number, since fault kinds have numbers by a rule of the project
     let kind = if call.a == 1 {
         FaultKind::Unterminated
     } else {
         FaultKind::InvalidEscape
     };
     let fault = |to| Fault { kind, from: 0, to };
+    // by word, as the data file names a call
     Ok(match call.name {
         "append" => list.append(fault(call.b))?.into(),
         "fill" => (0..call.b)
-            .filter(|to| list.append(fault(*to)).is_ok())
+            .map(|to| list.append(fault(to)))
+            .filter(Result::is_ok)
             .count()
             .into(),
         "at" => list.at(call.a)?.into(),

@@ -22,6 +22,7 @@ fn replay_script(
     head: Call<'_>,
     calls: &str,
 ) -> anyhow::Result<bool> {
+    // by word, as the data file names a kind of script
     match head.name {
         "stores" => return replay_stores(heap, text, head.a, head.b, calls),
         "maps" => replay_maps(heap, text, head.a, calls)?,

@@ -11,8 +11,10 @@ use wtf8::Wtf8;
 
 // What any store answers to a call that alters it.
 fn act<S: ValueStore>(store: &mut S, call: Call<'_>) -> Result<Answer, Refusal> {
+    // a unit is the low 16 bits of a number; the library's conversions cut none off
     let first = (call.a & 0xFFFF) as u16;
     let second = (call.b & 0xFFFF) as u16;
+    // by word, as the data file names a call
     Ok(match call.name {
         "put" => store.put(first)?.into(),
         "close" => store.close()?.into(),
@@ -27,6 +29,7 @@ fn act<S: ValueStore>(store: &mut S, call: Call<'_>) -> Result<Answer, Refusal> 
 
 // What any store answers to a question.
 fn ask<S: ValueStore>(store: &S, call: Call<'_>) -> Result<Answer, Refusal> {
+    // by word, as the data file names a call
     Ok(match call.name {
         "len" => store.value_len(call.a)?.into(),
         "unit" => store.value_unit(call.a, call.b)?.into(),
@@ -38,6 +41,7 @@ fn ask<S: ValueStore>(store: &S, call: Call<'_>) -> Result<Answer, Refusal> {
 
 // What a WTF-8 store answers: also where a value stands in all stored bytes.
 fn act_wtf8(store: &mut Wtf8, call: Call<'_>) -> Result<Answer, Refusal> {
+    // by word, as the data file names a call
     match call.name {
         "place" => store.place_of(call.a).map(Answer::from),
         _ => act(store, call),
@@ -46,12 +50,14 @@ fn act_wtf8(store: &mut Wtf8, call: Call<'_>) -> Result<Answer, Refusal> {
 
 // The finished values, each read at once, then the open one, unit by unit.
 fn write_values<S: ValueStore>(text: &mut String, store: &S) -> anyhow::Result<()> {
+    // by number, since a store answers by number
     for n in 0..store.count() {
         let mut units = [0u16; 64];
         let many = store.read_value(n, &mut units).unwrap_or(0);
         write_units(text, units.iter().copied().take(many))?;
         text.push(',')?;
     }
+    // by number too
     write_units(
         text,
         (0..store.open_len()).map(|i| store.open_unit(i).unwrap_or(0)),
@@ -81,12 +87,14 @@ fn write_bytes(text: &mut String, store: &Wtf8) -> anyhow::Result<()> {
 // Whether two stores tell the same of value `n`.
 fn same_value<A: ValueStore, B: ValueStore>(a: &A, b: &B, n: usize) -> bool {
     let many = a.value_len(n);
+    // by number, since a store answers by number
     many == b.value_len(n)
         && (0..many.unwrap_or(0)).all(|i| a.value_unit(n, i) == b.value_unit(n, i))
 }
 
 // Whether two stores tell the same finished values.
 fn same_values<A: ValueStore, B: ValueStore>(a: &A, b: &B) -> bool {
+    // by number, since a store answers by number
     a.count() == b.count() && (0..a.count()).all(|n| same_value(a, b, n))
 }
 

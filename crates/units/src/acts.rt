@@ -1,7 +1,9 @@
 ghost use Rattle.std.specs.Prelude.{◌≡◌, ◌<◌, ◌≤◌, [], length, if◌then◌else◌, Ok, Err, MatchResult, slice_index_or};
-ghost use Rattle.refusals.specs.Numbers.{number_of, numbered};
+ghost use Rattle.refusals.specs.Numbers.{numbered};
+ghost use Rattle.refusals.specs.declared.Refusal.TheVariants.{IndexPastEnd};
 ghost use Rattle.store.specs.Held.{fits, with_unit, has_place, closed, dropped, unit_told};
 ghost use Rattle.store.specs.Leaves.{PutLeaves, CloseLeaves, LeavesAll};
+ghost use Rattle.cuts.specs.Lists.{SameLent};
 ghost use Rattle.units.specs.Views.{cells, ends, finished, meaning};
 ghost use Rattle.units.specs.Law.{units_lawful};
 
@@ -20,7 +22,7 @@ impl<'a> ValueStore for Units<'a> {
         ensures answer { numbered result ≡ (if fits length (meaning self.old) unit then Ok tt else Err 12) }
         ensures after { meaning self.new ≡ (if fits length (meaning self.old) unit then with_unit (meaning self.old) unit else meaning self.old) }
         ensures leaves { PutLeaves (fits length (meaning self.old) unit) (finished self.old) (cells self.old) (cells self.new) (ends self.old) (ends self.new) }
-        ensures lent { (self.new.cuts.cells.memory.ghost_name ≡ self.old.cuts.cells.memory.ghost_name) × (self.new.cuts.ends.memory.ghost_name ≡ self.old.cuts.ends.memory.ghost_name) }
+        ensures lent { SameLent self.old.cuts self.new.cuts }
     {
         self.cuts.push(unit)
     }
@@ -29,7 +31,7 @@ impl<'a> ValueStore for Units<'a> {
         ensures answer { numbered result ≡ (if has_place (meaning self.old) then Ok (length (meaning self.old).values) else Err 11) }
         ensures after { meaning self.new ≡ (if has_place (meaning self.old) then closed (meaning self.old) else meaning self.old) }
         ensures leaves { CloseLeaves (has_place (meaning self.old)) (length (meaning self.old).values) (cells self.old) (cells self.new) (ends self.old) (ends self.new) }
-        ensures lent { (self.new.cuts.cells.memory.ghost_name ≡ self.old.cuts.cells.memory.ghost_name) × (self.new.cuts.ends.memory.ghost_name ≡ self.old.cuts.ends.memory.ghost_name) }
+        ensures lent { SameLent self.old.cuts self.new.cuts }
     {
         self.cuts.close()
     }
@@ -37,7 +39,7 @@ impl<'a> ValueStore for Units<'a> {
     fn drop_open(&mut self)
         ensures after { meaning self.new ≡ dropped (meaning self.old) }
         ensures leaves { LeavesAll (cells self.old) (cells self.new) (ends self.old) (ends self.new) }
-        ensures lent { (self.new.cuts.cells.memory.ghost_name ≡ self.old.cuts.cells.memory.ghost_name) × (self.new.cuts.ends.memory.ghost_name ≡ self.old.cuts.ends.memory.ghost_name) }
+        ensures lent { SameLent self.old.cuts self.new.cuts }
     {
         self.cuts.drop_open();
     }
@@ -86,7 +88,7 @@ impl<'a> ValueStore for Units<'a> {
 impl<'a> Units<'a> {
     // The units of finished value `n`.
     pub fn units_of(&self, n: usize) -> Result<&[u16], Refusal>
-        ensures { MatchResult result (λ units. (n < length (meaning self.now).values) × (units.now ≡ slice_index_or (meaning self.now).values n [])) (λ e. (length (meaning self.now).values ≤ n) × (number_of e ≡ 5)) }
+        ensures { MatchResult result (λ units. (n < length (meaning self.now).values) × (units.now ≡ slice_index_or (meaning self.now).values n [])) (λ e. (length (meaning self.now).values ≤ n) × (e ≡ IndexPastEnd)) }
     {
         self.cuts.part(n)
     }

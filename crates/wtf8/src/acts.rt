@@ -1,14 +1,17 @@
-ghost use Rattle.std.specs.Prelude.{◌≡◌, ◌<◌, ◌≤◌, [], length, if◌then◌else◌, Ok, Err, MatchResult, slice_index_or};
-ghost use Rattle.refusals.specs.Numbers.{number_of, numbered};
+ghost use Rattle.std.specs.Prelude.{◌≡◌, ◌<◌, ◌≤◌, ◌-◌, [], length, if◌then◌else◌, Ok, Err, MatchResult, slice_index_or};
+ghost use Rattle.refusals.specs.Numbers.{numbered};
+ghost use Rattle.refusals.specs.declared.Refusal.TheVariants.{IndexPastEnd};
 ghost use Rattle.store.specs.Held.{fits, with_unit, has_place, closed, dropped};
 ghost use Rattle.store.specs.Leaves.{PutLeaves, CloseLeaves, LeavesAll};
 ghost use Rattle.coding.specs.Codes.{weight, wtf8};
+ghost use Rattle.cuts.specs.Lists.{SameLent};
 ghost use Rattle.wtf8.specs.Views.{cells, ends, finished, opened, all_bytes, meaning, IsPlace};
 ghost use Rattle.wtf8.specs.Law.{wtf8_lawful};
 
 use super::Wtf8;
 use coding::{completed, encoded, last_half, read_units, unit_at, unit_count};
 use refusals::Refusal;
+use std::ops::Range;
 use store::ValueStore;
 
 // Where a value's bytes stand in all stored bytes.
@@ -16,6 +19,17 @@ use store::ValueStore;
 pub struct Place {
     pub from: usize,
     pub len: usize,
+}
+
+impl From<Range<usize>> for Place {
+    ghost from_gives = { λ range place. (place.from ≡ range.start) × (place.len ≡ range.end - range.start) };
+
+    fn from(range: Range<usize>) -> Place {
+        Place {
+            from: range.start,
+            len: range.len(),
+        }
+    }
 }
 
 impl<'a> ValueStore for Wtf8<'a> {
@@ -29,7 +43,7 @@ impl<'a> ValueStore for Wtf8<'a> {
         ensures answer { numbered result ≡ (if fits weight (meaning self.old) unit then Ok tt else Err 12) }
         ensures after { meaning self.new ≡ (if fits weight (meaning self.old) unit then with_unit (meaning self.old) unit else meaning self.old) }
         ensures leaves { PutLeaves (fits weight (meaning self.old) unit) (finished self.old) (cells self.old) (cells self.new) (ends self.old) (ends self.new) }
-        ensures lent { (self.new.cuts.cells.memory.ghost_name ≡ self.old.cuts.cells.memory.ghost_name) × (self.new.cuts.ends.memory.ghost_name ≡ self.old.cuts.ends.memory.ghost_name) }
+        ensures lent { SameLent self.old.cuts self.new.cuts }
     {
         let open = self.open_bytes();
         let (kept, code) = completed(last_half(open), open.len(), unit);
@@ -41,7 +55,7 @@ impl<'a> ValueStore for Wtf8<'a> {
         ensures answer { numbered result ≡ (if has_place (meaning self.old) then Ok (length (meaning self.old).values) else Err 11) }
         ensures after { meaning self.new ≡ (if has_place (meaning self.old) then closed (meaning self.old) else meaning self.old) }
         ensures leaves { CloseLeaves (has_place (meaning self.old)) (length (meaning self.old).values) (cells self.old) (cells self.new) (ends self.old) (ends self.new) }
-        ensures lent { (self.new.cuts.cells.memory.ghost_name ≡ self.old.cuts.cells.memory.ghost_name) × (self.new.cuts.ends.memory.ghost_name ≡ self.old.cuts.ends.memory.ghost_name) }
+        ensures lent { SameLent self.old.cuts self.new.cuts }
     {
         self.cuts.close()
     }
@@ -49,7 +63,7 @@ impl<'a> ValueStore for Wtf8<'a> {
     fn drop_open(&mut self)
         ensures after { meaning self.new ≡ dropped (meaning self.old) }
         ensures leaves { LeavesAll (cells self.old) (cells self.new) (ends self.old) (ends self.new) }
-        ensures lent { (self.new.cuts.cells.memory.ghost_name ≡ self.old.cuts.cells.memory.ghost_name) × (self.new.cuts.ends.memory.ghost_name ≡ self.old.cuts.ends.memory.ghost_name) }
+        ensures lent { SameLent self.old.cuts self.new.cuts }
     {
         self.cuts.drop_open();
     }
@@ -102,18 +116,14 @@ impl<'a> Wtf8<'a> {
 
     // Where the bytes of finished value `n` stand in all bytes.
     pub fn place_of(&self, n: usize) -> Result<Place, Refusal>
-        ensures { MatchResult result (λ p. IsPlace self.now n p.from p.len) (λ e. (length (meaning self.now).values ≤ n) × (number_of e ≡ 5)) }
+        ensures { MatchResult result (λ p. IsPlace self.now n p.from p.len) (λ e. (length (meaning self.now).values ≤ n) × (e ≡ IndexPastEnd)) }
     {
-        let place = self.cuts.place(n)?;
-        Ok(Place {
-            from: place.start,
-            len: place.end - place.start,
-        })
+        self.cuts.place(n).map(Place::from)
     }
 
     // The bytes of finished value `n`.
     pub fn bytes_of(&self, n: usize) -> Result<&[u8], Refusal>
-        ensures { MatchResult result (λ b. (n < length (meaning self.now).values) × (b.now ≡ wtf8 (slice_index_or (meaning self.now).values n []))) (λ e. (length (meaning self.now).values ≤ n) × (number_of e ≡ 5)) }
+        ensures { MatchResult result (λ b. (n < length (meaning self.now).values) × (b.now ≡ wtf8 (slice_index_or (meaning self.now).values n []))) (λ e. (length (meaning self.now).values ≤ n) × (e ≡ IndexPastEnd)) }
     {
         self.cuts.part(n)
     }

@@ -1,4 +1,4 @@
-use Rattle.std.proofs.Common.{length, ap, ◌∙◌, arith}
+use Rattle.std.proofs.Common.{length, refl, ap, ◌∙◌, arith}
 use Rattle.store.specs.Cuts.{cut, ordered}
 use Rattle.cuts.proofs.Cutting.{rising_less, cut_less}
 use Rattle.cuts.specs.Lists.{used, marks}
@@ -12,4 +12,4 @@ invariant_of-self g c =
 pub returns-clause-lists : goal.returns-clause-lists
 returns-clause-lists g c =
     let s = c.args.self.now in
-    ap (λ t. cut t 0 (marks s)) c.truncate.ensures.items ∙ cut_less (used s) (marks s) s.rising c.open_start-start.result (omega (arith, c.open_start-start.ensures))
+    record { lists = ap (λ t. cut t 0 (marks s)) c.truncate.ensures.items ∙ cut_less (used s) (marks s) s.rising c.open_start-start.result (omega (arith, c.open_start-start.ensures)); marks = refl }

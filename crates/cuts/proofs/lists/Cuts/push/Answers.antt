@@ -13,7 +13,7 @@ pub returns-clause-draft : goal.returns-clause-draft
 returns-clause-draft g c = let s = c.args.self.now in grown_open (used s) (marks s) s.rising _ (c.args.item ∷ []) (free s.cells) c.push.ensures.items
 
 pub returns-clause-lists : goal.returns-clause-lists
-returns-clause-lists g c = let s = c.args.self.now in grown_lists (used s) (marks s) s.rising _ (c.args.item ∷ []) (free s.cells) c.push.ensures.items
+returns-clause-lists g c = let s = c.args.self.now in record { lists = grown_lists (used s) (marks s) s.rising _ (c.args.item ∷ []) (free s.cells) c.push.ensures.items; marks = refl }
 
 pub returns-clause-leaves : goal.returns-clause-leaves
 returns-clause-leaves g c =

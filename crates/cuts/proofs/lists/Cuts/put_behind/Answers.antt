@@ -19,7 +19,7 @@ pub loop-item-init : goal.loop-item-init
 loop-item-init g c =
     let s = c.args.self.now in
     let f : c.open_start.result + c.min.result ≡ finished s + min (length (opened s)) c.args.kept = omega (arith, c.open_start.ensures, ap length c.open.ensures) in
-    (behind_none s _ c.args.kept (c.open_start.result + c.min.result) f refl c.truncate.ensures.items c.truncate.ensures.memory refl, c.truncate.ensures.lent, refl)
+    behind_none s _ c.args.kept (c.open_start.result + c.min.result) f refl c.truncate.ensures.items c.truncate.ensures.memory refl (c.truncate.ensures.lent, refl)
 
 pub returns-clause-answer : goal.returns-clause-answer
 returns-clause-answer g c =
@@ -33,5 +33,5 @@ returns-clause-leaves g c =
     let s = c.args.self.now in
     let k : takes s (take c.args.kept (opened s) ++ c.args.items.now) ≡ true =
     le-leb (finished s + length (take c.args.kept (opened s) ++ c.args.items.now)) (capacity_of s) (omega (arith, length-append (take c.args.kept (opened s)) c.args.items.now, length-take c.args.kept (opened s), used_of s, used_in s, c.open_start.ensures, ap length c.open.ensures, c.capacity.ensures)) in
-    let b = c.loop-item.invariant.0 in
+    let b = c.loop-item.invariant in
     record { same_places = b.same_table; refused = λ e. absurd (true≢false (sym k ∙ e)); same_values = b.front; past = b.past }

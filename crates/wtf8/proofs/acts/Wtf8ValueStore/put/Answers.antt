@@ -2,6 +2,9 @@ use Rattle.std.proofs.Common.{◌++◌, cond, Ok, Err, map, take, sym, ap, ◌�
 use Rattle.coding.specs.Codes.{recode}
 use Rattle.store.specs.Held.{with_unit}
 use Rattle.store.specs.Leaves.{PutLeaves}
+use Rattle.refusals.specs.Numbers.{numbered}
+use Rattle.refusals.specs.declared.Refusal.TheVariants.{NoCapacity}
+use Rattle.cuts.proofs.Putting.{by_number}
 use Rattle.cuts.specs.Lists.{memory, table, opened, takes}
 use Rattle.wtf8.specs.Views.{cells, ends, finished, meaning}
 use Rattle.wtf8.proofs.Steps.{fits_is, put_bytes, fresh_with, held_with}
@@ -17,7 +20,7 @@ invariant_of-self c =
     let w = put_bytes o c.open_bytes-open.result.now c.last_half.result c.args.unit k.result.0 k.result.1 bytes s.fresh c.open_bytes-open.ensures c.last_half.ensures k.ensures.place k.ensures.code (c.encoded.ensures.bytes k.ensures.small) in
     let b = takes s.cuts (take k.result.0 o ++ bytes) in
     record {
-      whole = ap (map recode) e.lists ∙ s.whole ∙ sym e.lists;
+      whole = ap (map recode) e.lists.lists ∙ s.whole ∙ sym e.lists.lists;
       fresh = fresh_with s.cuts c.put_behind.new.self c.args.unit b c.ranges.unit.fits s.fresh (e.draft ∙ ap (λ t. cond b t o) w);
     }
 
@@ -26,7 +29,7 @@ returns-clause-answer c =
     let s = c.args.self.now in
     let k = c.completed-kept in
     let w = put_bytes (opened s.cuts) c.open_bytes-open.result.now c.last_half.result c.args.unit k.result.0 k.result.1 c.encoded.result.now s.fresh c.open_bytes-open.ensures c.last_half.ensures k.ensures.place k.ensures.code (c.encoded.ensures.bytes k.ensures.small) in
-    c.put_behind.ensures.answer ∙ ap (λ b. cond b (Ok tt) (Err 12)) (ap (takes s.cuts) w ∙ sym (fits_is s c.args.unit))
+    ap numbered c.put_behind.ensures.answer ∙ by_number (takes s.cuts (take k.result.0 (opened s.cuts) ++ c.encoded.result.now)) tt NoCapacity ∙ ap (λ b. cond b (Ok tt) (Err 12)) (ap (takes s.cuts) w ∙ sym (fits_is s c.args.unit))
 
 pub returns-clause-after : goal.returns-clause-after
 returns-clause-after c =
@@ -37,7 +40,7 @@ returns-clause-after c =
     let bytes = c.encoded.result.now in
     let w = put_bytes o c.open_bytes-open.result.now c.last_half.result c.args.unit k.result.0 k.result.1 bytes s.fresh c.open_bytes-open.ensures c.last_half.ensures k.ensures.place k.ensures.code (c.encoded.ensures.bytes k.ensures.small) in
     let b = takes s.cuts (take k.result.0 o ++ bytes) in
-    held_with s.cuts c.put_behind.new.self c.args.unit b c.ranges.unit.fits e.lists (e.draft ∙ ap (λ t. cond b t o) w) e.places e.capacity
+    held_with s.cuts c.put_behind.new.self c.args.unit b c.ranges.unit.fits e.lists.lists (e.draft ∙ ap (λ t. cond b t o) w) e.stays.places e.stays.capacity
     ∙ ap (λ b. cond b (with_unit (meaning s) c.args.unit) (meaning s)) (ap (takes s.cuts) w ∙ sym (fits_is s c.args.unit))
 
 pub returns-clause-leaves : goal.returns-clause-leaves
