@@ -66,5 +66,5 @@ pub fn find_stops<S: StopSet>(set: &S, bytes: &[u8]) -> Stops
 pub fn count_stops<S: StopSet>(set: &S, bytes: &[u8]) -> usize
     ensures { result ≡ tally (S.StopSet.stops set.now) bytes.now }
 {
-    bytes.iter().filter(|byte| set.has(**byte)).count()
+    bytes.iter().map(|byte| usize::from(set.has(*byte))).sum()
 }
