@@ -1,4 +1,4 @@
-ghost use Rattle.std.specs.Prelude.{◌≡◌, ◌%◌, ◌<◌, length, if◌then◌else◌, Ok, Err, nat_le, slice_index};
+ghost use Rattle.std.specs.Prelude.{◌≡◌, ◌%◌, ◌<◌, ◌≤◌, [], ◌∷◌, length, if◌then◌else◌, Ok, Err, nat_le, slice_index};
 ghost use Rattle.std.proofs.Math.Utf8.{encode};
 ghost use Rattle.std.specs.Iterator.{YieldsFirst, item_count};
 ghost use Rattle.refusals.specs.Numbers.{numbered};
@@ -37,11 +37,19 @@ pub fn completed(half: Option<u16>, used: usize, u: u16) -> (usize, u32)
     }
 }
 
-// A code point's bytes, in a buffer that is lent for them.
+// How many bytes a code point takes.
+pub fn size(c: u32) -> usize
+    ensures { result ≡ length (encode c) }
+{
+    encoded(c, &mut [0; 4]).len()
+}
+
+// A code point's bytes, in a buffer that is lent for them; zeros for a number that is none.
 #[tactic(auto, using(crate::proofs::Trips::encode_2, crate::proofs::Trips::encode_3, crate::proofs::Trips::encode_4))]
 pub fn encoded(c: u32, buffer: &mut [u8; 4]) -> &[u8]
     ensures long { length result.now ≡ length (encode c) }
     ensures bytes { c < 1114112 → result.now ≡ encode c }
+    ensures none { 1114112 ≤ c → result.now ≡ 0 ∷ 0 ∷ 0 ∷ 0 ∷ [] }
 {
     match c {
         0..=0x7F => {
@@ -61,13 +69,17 @@ pub fn encoded(c: u32, buffer: &mut [u8; 4]) -> &[u8]
             ];
             &buffer[..3]
         }
-        _ => {
+        0x10000..=0x10FFFF => {
             *buffer = [
-                (0xF0 + c / 0x40000 % 8) as u8,
+                (0xF0 + c / 0x40000) as u8,
                 (0x80 + c / 0x1000 % 0x40) as u8,
                 (0x80 + c / 0x40 % 0x40) as u8,
                 (0x80 + c % 0x40) as u8,
             ];
+            buffer
+        }
+        _ => {
+            *buffer = [0; 4];
             buffer
         }
     }
