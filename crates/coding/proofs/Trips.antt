@@ -220,6 +220,15 @@ width_most c h = go (ltb c 128) (ltb c 2048) (ltb c 65536) (lt-ltb c 65536 h)
     go false false true e = omega arith
     go false false false e = absurd (true≢false (sym e))
 
+pub size_most : (c : ℕ) → length (encode c) ≤ 4
+size_most c = subst (λ n. n ≤ 4) (sym (length-encode c)) (go (ltb c 128) (ltb c 2048) (ltb c 65536))
+  where
+    go : (p q r : Bool) → cond p 1 (cond q 2 (cond r 3 4)) ≤ 4
+    go true q r = omega arith
+    go false true r = omega arith
+    go false false true = omega arith
+    go false false false = omega arith
+
 pub three_bytes : (h : ℕ) → high h ≡ true → length (encode h) ≡ 3
 three_bytes h e = let r = high_range h e in ap length (encode_3 h (omega (arith, r.0)) (omega (arith, r.1)))
 
