@@ -1,5 +1,5 @@
 -- Items in lent memory: the memory, how many items it takes, and the items. Assumes nothing.
-use Rattle.std.specs.Prelude.{ℕ, min, Bool, List, length, take, nat_lt}
+use Rattle.std.specs.Prelude.{ℕ, min, Bool, cond, List, length, take, nat_lt, slice_set}
 use Rattle.lent.specs.declared.items.Lent.{Lent}
 
 abbrev pub memory_of : {T : Type 0} {MOST : ℕ} → Lent T MOST → List T
@@ -16,3 +16,7 @@ room_of {T} {MOST} l = min (length (memory_of l)) MOST
 -- some cell is free
 abbrev pub free : {T : Type 0} {MOST : ℕ} → Lent T MOST → Bool
 free l = nat_lt (length (items_of l)) (room_of l)
+
+-- the memory with an item in the first free cell, and as it is where none is free
+abbrev pub pushed : {T : Type 0} {MOST : ℕ} → Lent T MOST → T → List T
+pushed l x = cond (free l) (slice_set (memory_of l) l.used x) (memory_of l)

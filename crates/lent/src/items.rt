@@ -13,7 +13,7 @@ pub struct Lent<'a, T, const MOST: usize> {
 }
 
 impl<'a, T: Copy, const MOST: usize> Lent<'a, T, MOST> {
-    ghost use Rattle.lent.specs.Items.{items_of, memory_of, room_of, free};
+    ghost use Rattle.lent.specs.Items.{items_of, memory_of, room_of, free, pushed};
 
     // No item. No cell is written.
     pub fn new(memory: &'a mut [T]) -> Lent<'a, T, MOST>
@@ -49,6 +49,7 @@ impl<'a, T: Copy, const MOST: usize> Lent<'a, T, MOST> {
     pub fn push(&mut self, item: T) -> Result<(), Full>
         ensures answer { is_ok result ≡ free self.old }
         ensures items { items_of self.new ≡ (if free self.old then items_of self.old ++ (item ∷ []) else items_of self.old) }
+        ensures memory { memory_of self.new ≡ pushed self.old item }
         ensures refused { free self.old ≡ false → memory_of self.new ≡ memory_of self.old }
         ensures past { drop MOST (memory_of self.new) ≡ drop MOST (memory_of self.old) }
         ensures room { room_of self.new ≡ room_of self.old }
