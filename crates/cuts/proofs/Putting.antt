@@ -1,14 +1,21 @@
 -- Cells put behind some of the open list, one after another. Assumes nothing.
-use Rattle.std.proofs.Common.{◌≡◌, ℕ, ◌+◌, ◌≤◌, min, Bool, true, false, cond, Ok, Err, List, [], ◌++◌, length, take, drop, refl, sym, ap, ◌∙◌, ⊎_elim, arith}
-use Rattle.std.proofs.lemmas.List.{length-take, take_all, drop-take, append-nil}
-use Rattle.std.proofs.lemmas.Bool.{cases_lt}
+use Rattle.std.proofs.Common.{◌≡◌, ℕ, ◌+◌, ◌<◌, ◌≤◌, min, Bool, true, false, cond, Ok, Err, is_ok, List, [], ◌∷◌, ◌++◌, length, take, drop, set, refl, sym, ap, ◌∙◌, ⊎_elim, arith}
+use Rattle.std.proofs.lemmas.List.{length-take, length-append, take_all, drop-take, append-nil, append_assoc}
+use Rattle.std.proofs.lemmas.Bool.{cases_lt, cond-true, lt-ltb, true≢false}
 use Rattle.refusals.specs.Numbers.{number_of, numbered}
 use Rattle.refusals.specs.declared.Refusal.{Refusal}
-use Rattle.store.specs.Cuts.{cut, final}
-use Rattle.store.proofs.Parts.{cut_length}
+use Rattle.lent.specs.Items.{pushed}
+use Rattle.store.specs.Cuts.{cut, final, laid}
+use Rattle.store.specs.Leaves.{PutLeaves}
+use Rattle.store.proofs.Parts.{cut_length, laid_more}
 use Rattle.cuts.proofs.Cutting.{open_length, cut_less}
 use Rattle.cuts.specs.declared.lists.Cuts.{Cuts}
-use Rattle.cuts.specs.Lists.{memory, table, used, marks, finished, lists, opened, capacity_of, places_of, SameLent, Stays, SameLists}
+use Rattle.cuts.specs.Lists.{memory, table, used, marks, finished, lists, opened, capacity_of, places_of, has_cell, SameLent, Stays, SameLists}
+
+-- no refusal where there is room
+pub not_refused : {A : Type 0} (b : Bool) (a : A) (e f : Refusal) → b ≡ true → Err f ≡ cond b (Ok a) (Err e) → ⊥
+not_refused true a e f k h = true≢false (sym (ap is_ok h))
+not_refused false a e f k h = true≢false (sym k)
 
 -- an answer told by number, where there is room and where there is none
 pub by_number : {A : Type 0} (b : Bool) (a : A) (e : Refusal) → numbered (cond b (Ok a) (Err e)) ≡ cond b (Ok a) (Err (number_of e))
@@ -58,3 +65,48 @@ module _ {T : Type 0} where
     front = ap (take (finished c)) e;
     past = ap (drop 1048576) e;
   }
+
+  -- where the cells that are kept end
+  abbrev pub kept_to : Cuts T → ℕ → ℕ
+  kept_to c k = finished c + min (length (opened c)) k
+
+  module _ (c c' : Cuts T) (k i : ℕ) (us : List T) (so : Behind c c' (take k (opened c) ++ take i us)) (lt : i < length us) (fit : kept_to c k + length us ≤ capacity_of c) where
+    same_start : finished c' ≡ finished c
+    same_start = ap (final 0) so.same_lists.marks
+
+    used_now : length (used c') ≡ kept_to c k + i
+    used_now =
+        let a = used_of c' in
+        let f = same_start in
+        let d = ap length so.draft in
+        let n = length-append (take k (opened c)) (take i us) in
+        let m = length-take k (opened c) in
+        let l = length-take i us in
+        omega arith
+
+    -- there is room for one more
+    pub still_free : has_cell c' ≡ true
+    still_free = lt-ltb (length (used c')) (capacity_of c') (let u = used_now in let r = so.stays.capacity in omega arith)
+
+    -- it is put behind them
+    module _ (c'' : Cuts T) (x : T) (next : take (i + 1) us ≡ take i us ++ (x ∷ [])) where
+      pub behind_one : opened c'' ≡ cond (has_cell c') (opened c' ++ (x ∷ [])) (opened c') → SameLists c' c'' → Stays c' c'' → PutLeaves (has_cell c') (finished c') (memory c') (memory c'') (table c') (table c'') → Behind c c'' (take k (opened c) ++ take (i + 1) us)
+      behind_one d l t p = record {
+        draft =
+            d
+            ∙ cond-true _ _ _ still_free
+            ∙ ap (λ t. t ++ (x ∷ [])) so.draft
+            ∙ append_assoc (take k (opened c)) (take i us) (x ∷ [])
+            ∙ ap (λ t. take k (opened c) ++ t) (sym next);
+        same_lists = record { lists = l.lists ∙ so.same_lists.lists; marks = l.marks ∙ so.same_lists.marks };
+        stays = record { capacity = t.capacity ∙ so.stays.capacity; places = t.places ∙ so.stays.places; lent = (t.lent.0 ∙ so.stays.lent.0, t.lent.1 ∙ so.stays.lent.1) };
+        same_table = p.same_places ∙ so.same_table;
+        front = ap (λ n. take n (memory c'')) (sym same_start) ∙ p.same_values ∙ ap (λ n. take n (memory c')) same_start ∙ so.front;
+        past = p.past ∙ so.past;
+      }
+
+      pub laid_one : memory c' ≡ laid (memory c) (kept_to c k) (take i us) → memory c'' ≡ pushed c'.cells x → memory c'' ≡ laid (memory c) (kept_to c k) (take (i + 1) us)
+      laid_one m p =
+          let at : c'.cells.used ≡ kept_to c k + length (take i us) =
+          let u = used_now in let l = length-take i us in let n = length-take c'.cells.used (memory c') in let f = c'.cells.fits in omega arith in
+          p ∙ cond-true _ _ _ still_free ∙ (λ j. set (m j) (at j) x) ∙ sym (laid_more (memory c) (kept_to c k) (take i us) x) ∙ ap (laid (memory c) (kept_to c k)) (sym next)

@@ -1,7 +1,7 @@
-ghost use Rattle.std.specs.Prelude.{◌≡◌, ◌<◌, ◌≤◌, true, [], ◌∷◌, ◌++◌, length, take, if◌then◌else◌, Ok, Err, MatchResult, slice_index_or};
+ghost use Rattle.std.specs.Prelude.{◌≡◌, ◌+◌, ◌<◌, ◌≤◌, min, true, [], ◌∷◌, ◌++◌, length, take, if◌then◌else◌, Ok, Err, MatchResult, slice_index_or, slice_set};
 ghost use Rattle.refusals.specs.declared.Refusal.TheVariants.{IndexPastEnd, NoPlace, NoCapacity};
-ghost use Rattle.lent.specs.Items.{items_of};
-ghost use Rattle.store.specs.Cuts.{final, ordered};
+ghost use Rattle.lent.specs.Items.{items_of, pushed};
+ghost use Rattle.store.specs.Cuts.{final, ordered, laid};
 ghost use Rattle.store.specs.Leaves.{PutLeaves, CloseLeaves, LeavesAll};
 
 use lent::Lent;
@@ -92,6 +92,7 @@ impl<'a, T: Copy> Cuts<'a, T> {
         ensures draft { opened self.new ≡ (if has_cell self.old then opened self.old ++ (item ∷ []) else opened self.old) }
         ensures lists { SameLists self.old self.new }
         ensures stays { Stays self.old self.new }
+        ensures memory { memory self.new ≡ pushed self.old.cells item }
         ensures leaves { PutLeaves (has_cell self.old) (finished self.old) (memory self.old) (memory self.new) (table self.old) (table self.new) }
     {
         self.cells.push(item).map_err(|_| Refusal::NoCapacity)
@@ -103,9 +104,10 @@ impl<'a, T: Copy> Cuts<'a, T> {
         ensures draft { opened self.new ≡ (if takes self.old (take kept (opened self.old) ++ items.now) then take kept (opened self.old) ++ items.now else opened self.old) }
         ensures lists { SameLists self.old self.new }
         ensures stays { Stays self.old self.new }
+        ensures memory { memory self.new ≡ (if takes self.old (take kept (opened self.old) ++ items.now) then laid (memory self.old) (finished self.old + min (length (opened self.old)) kept) items.now else memory self.old) }
         ensures leaves { PutLeaves (takes self.old (take kept (opened self.old) ++ items.now)) (finished self.old) (memory self.old) (memory self.new) (table self.old) (table self.new) }
     {
-        let from = self.open_start() + self.open().len().min(kept);
+        let from = self.open_start().saturating_add(kept).min(self.all().len());
         if items.len() > self.capacity() - from {
             return Err(Refusal::NoCapacity);
         }
@@ -124,6 +126,7 @@ impl<'a, T: Copy> Cuts<'a, T> {
         ensures lists { lists self.new ≡ (if has_place self.old then lists self.old ++ (opened self.old ∷ []) else lists self.old) }
         ensures draft { opened self.new ≡ (if has_place self.old then [] else opened self.old) }
         ensures stays { Stays self.old self.new }
+        ensures table { table self.new ≡ (if has_place self.old then slice_set (table self.old) self.old.ends.used self.old.cells.used else table self.old) }
         ensures leaves { CloseLeaves (has_place self.old) (length (lists self.old)) (memory self.old) (memory self.new) (table self.old) (table self.new) }
     {
         let number = self.count();

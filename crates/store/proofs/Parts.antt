@@ -5,7 +5,7 @@ use Rattle.std.proofs.lemmas.Bool.{leb-true, le-leb, and_parts, and_from}
 use Rattle.store.specs.Held.{weighed}
 use Rattle.store.specs.Cuts.{part, cut, final, ordered, laid}
 
-part_length : {T : Type 0} (m : List T) (a b : ℕ) → a ≤ b → b ≤ length m → length (part m a b) ≡ b - a
+pub part_length : {T : Type 0} (m : List T) (a b : ℕ) → a ≤ b → b ≤ length m → length (part m a b) ≡ b - a
 part_length m a b h k = let e = length-take (b - a) (drop a m) in let f = length-drop a m in omega arith
 
 pub step : (s e : ℕ) (es : List ℕ) (u : ℕ) → ordered s (e ∷ es) u ≡ true → (s ≤ e) × (ordered e es u ≡ true)
@@ -58,6 +58,11 @@ pub at_within : (s : ℕ) (es : List ℕ) (u n : ℕ) → ordered s es u ≡ tru
 at_within s [] u n h k = absurd (omega arith)
 at_within s (e ∷ es) u zero h k = let p = step s e es u h in let q = final_within e es u p.1 in (p.0, omega (arith, q.0, q.1))
 at_within s (e ∷ es) u (suc n) h k = at_within e es u n (step s e es u h).1 (omega arith)
+
+-- one cell more laid behind others
+pub laid_more : {T : Type 0} (m : List T) (i : ℕ) (us : List T) (x : T) → laid m i (us ++ (x ∷ [])) ≡ set (laid m i us) (i + length us) x
+laid_more m i [] x = ap (λ n. set m n x) (sym (add-zero i))
+laid_more m i (u ∷ us) x = let e : i + 1 + length us ≡ i + suc (length us) = omega arith in laid_more (set m i u) (i + 1) us x ∙ ap (λ n. set (laid (set m i u) (i + 1) us) n x) e
 
 -- laid from a place on, and from the front
 laid_is : (m : List ℕ) (i : ℕ) (us : List ℕ) → i + length us ≤ length m → laid m i us ≡ take i m ++ (us ++ drop (i + length us) m)

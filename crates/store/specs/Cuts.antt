@@ -19,7 +19,7 @@ ordered s [] u = nat_le s u
 ordered s (e ∷ es) u = nat_le s e && ordered e es u
 
 -- cells written one after another from a place on
-abbrev pub laid : List ℕ → ℕ → List ℕ → List ℕ
+abbrev pub laid : {T : Type 0} → List T → ℕ → List T → List T
 laid m i [] = m
 laid m i (b ∷ bs) = laid (slice_set m i b) (i + 1) bs
 

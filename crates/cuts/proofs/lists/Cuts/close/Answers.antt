@@ -1,7 +1,8 @@
-use Rattle.std.proofs.Common.{[], ◌∷◌, ◌++◌, cond, ltb, length, refl, sym, ap, ◌∙◌, arith}
+use Rattle.std.proofs.Common.{[], ◌∷◌, ◌++◌, cond, ltb, length, set, refl, sym, ap, ◌∙◌, arith}
 use Rattle.lent.specs.Items.{free}
 use Rattle.store.proofs.Parts.{cut_length}
 use Rattle.cuts.proofs.Cutting.{closed_rising, closed_lists, closed_open, front_kept}
+use Rattle.cuts.proofs.Cells.{used_is}
 use Rattle.cuts.specs.Lists.{used, marks, table, lists, opened, places_of}
 use Rattle.cuts.proofs.lists.Cuts.close.Goals as goal
 
@@ -19,6 +20,12 @@ pub returns-clause-draft : goal.returns-clause-draft
 returns-clause-draft g c =
     let s = c.args.self.now in
     closed_open (used s) (marks s) s.rising _ c.len-end.result c.len-end.ensures.number (free s.ends) c.push.ensures.items ∙ ap (λ n. cond (ltb n (places_of s)) [] (opened s)) (sym (cut_length (used s) 0 (marks s)))
+
+pub returns-clause-table : goal.returns-clause-table
+returns-clause-table g c =
+    let s = c.args.self.now in
+    let e = c.len-end.ensures.number ∙ used_is s in
+    c.push.ensures.memory ∙ (λ j. cond (ltb (sym (cut_length (used s) 0 (marks s)) j) (places_of s)) (set (table s) s.ends.used (e j)) (table s))
 
 pub returns-clause-leaves : goal.returns-clause-leaves
 returns-clause-leaves g c =
