@@ -1,5 +1,6 @@
 ghost use Rattle.std.specs.Prelude.{◌≡◌, false, [], ◌∷◌, ◌++◌, length, drop, if◌then◌else◌, Ok, Err, Some};
 ghost use Rattle.refusals.specs.Numbers.{numbered};
+ghost use Rattle.lent.specs.Items.{pushed};
 ghost use Rattle.faults.specs.Records.{kind_of, word_of, fault_text, records_of, faults_of, room_of, has_record, fault_told};
 
 use lent::Lent;
@@ -108,6 +109,7 @@ impl<'a> FaultList<'a> {
     pub fn append(&mut self, fault: Fault) -> Result<(), Refusal>
         ensures answer { numbered result ≡ (if has_record self.old then Ok tt else Err 9) }
         ensures after { faults_of self.new ≡ (if has_record self.old then faults_of self.old ++ (fault ∷ []) else faults_of self.old) }
+        ensures records { records_of self.new ≡ pushed self.old.records fault }
         ensures refused { has_record self.old ≡ false → records_of self.new ≡ records_of self.old }
         ensures past { drop 4096 (records_of self.new) ≡ drop 4096 (records_of self.old) }
         ensures room { room_of self.new ≡ room_of self.old }

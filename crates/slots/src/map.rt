@@ -1,4 +1,4 @@
-ghost use Rattle.std.specs.Prelude.{◌≡◌, true, false, List, [], map, length, drop, if◌then◌else◌, Ok, Err};
+ghost use Rattle.std.specs.Prelude.{◌≡◌, true, false, List, [], map, length, drop, if◌then◌else◌, Ok, Err, is_some};
 ghost use Rattle.refusals.specs.Numbers.{numbered};
 ghost use Rattle.lent.specs.Items as lent;
 ghost use Rattle.slots.specs.Entries.{lookup, has_slot, inserted, distinct, OneAStart};
@@ -75,6 +75,7 @@ impl<'a, V: Copy> SlotMap<'a, V> {
     pub fn insert(&mut self, start: usize, value: V) -> Result<(), Refusal>
         ensures answer { numbered result ≡ (if has_slot (entries_of self.old) (room_of self.old) then Ok tt else Err 10) }
         ensures after { entries_of self.new ≡ inserted (entries_of self.old) (room_of self.old) start value }
+        ensures slots { slots_of self.new ≡ (if is_some (lookup (entries_of self.old) start) then slots_of self.old else lent.pushed self.old.slots (record { start = start; value = value })) }
         ensures refused { has_slot (entries_of self.old) (room_of self.old) ≡ false → slots_of self.new ≡ slots_of self.old }
         ensures past { drop 4096 (slots_of self.new) ≡ drop 4096 (slots_of self.old) }
         ensures room { room_of self.new ≡ room_of self.old }
