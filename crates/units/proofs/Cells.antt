@@ -10,7 +10,7 @@ use Rattle.store.proofs.Narrows.{narrow_more, narrow_less}
 use Rattle.cuts.proofs.Cells as in_cells
 use Rattle.units.specs.declared.Units.{Units}
 use Rattle.units.specs.Law as law
-use Rattle.units.specs.Views.{cells, ends, finished, meaning}
+use Rattle.units.specs.Views.{cells, ends, count, used, finished, meaning}
 
 -- what is held in cells and a table of ends, as many of each in use
 abbrev pub held_in : List ℕ → List ℕ → ℕ → ℕ → Held
@@ -24,13 +24,6 @@ held_in m es count used = record {
 -- what is known of a store of these parts
 abbrev pub Kept : List ℕ → List ℕ → ℕ → ℕ → Type 0
 Kept m es count used = (count ≤ min (length es) 4096) × ((used ≤ min (length m) 1048576) × ((ordered 0 (take count es) used ≡ true) × ((narrow (take used m) ≡ true) × Unit {0})))
-
--- how many places and cells of a store are in use
-abbrev pub count : Units → ℕ
-count s = s.cuts.ends.used
-
-abbrev pub used : Units → ℕ
-used s = s.cuts.cells.used
 
 module _ (s : Units) where
   pub held_is : meaning s ≡ held_in (cells s) (ends s) (count s) (used s)
@@ -51,7 +44,7 @@ module _ (s : Units) where
   pub load_is : load length (meaning s) ≡ used s
   load_is = law.load_is s.cuts ∙ in_cells.used_is s.cuts
 
-  -- one unit more
+  -- one unit more: `set (cells s) (used s) u` is what the clause `cells` of `put` says of the cells
   pub load_more : (u : ℕ) → load length (with_unit (meaning s) u) ≡ used s + 1
   load_more u = let a = load_is in let b = length-append (meaning s).draft (u ∷ []) in omega arith
 
@@ -78,7 +71,7 @@ module _ (s : Units) where
     pub put_leaves : PutLeaves (fits length (meaning s) u) (finished s) (cells s) (set (cells s) (used s) u) (ends s) (ends s)
     put_leaves = in_cells.put_leaves s.cuts u room (fits length (meaning s) u) free
 
-  -- one value more
+  -- one value more: `set (ends s) (count s) (used s)` is what the clause `ends` of `close` says of the places
   pub no_place : min (length (ends s)) 4096 ≤ count s → has_place (meaning s) ≡ false
   no_place past = in_cells.no_place s.cuts past
 

@@ -15,7 +15,7 @@ use Rattle.units.specs.Views.{meaning}
 pub load_is : (c : Cuts ℕ) → load length (held_of c) ≡ length (used c)
 load_is c = let a = weighed_is (used c) 0 (marks c) (length (used c)) c.rising (omega arith) in let b = used_of c in omega arith
 
-sound_is : (s : Units) → Sound length (meaning s)
+pub sound_is : (s : Units) → Sound length (meaning s)
 sound_is s =
     let c = s.cuts in
     let a = load_is c in

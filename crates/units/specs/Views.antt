@@ -11,6 +11,13 @@ cells s = cuts.memory s.cuts
 abbrev pub ends : Units → List ℕ
 ends s = cuts.table s.cuts
 
+-- how many places and cells are in use
+abbrev pub count : Units → ℕ
+count s = s.cuts.ends.used
+
+abbrev pub used : Units → ℕ
+used s = s.cuts.cells.used
+
 abbrev pub finished : Units → ℕ
 finished s = cuts.finished s.cuts
 

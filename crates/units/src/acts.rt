@@ -1,10 +1,10 @@
-ghost use Rattle.std.specs.Prelude.{◌≡◌, ◌<◌, ◌≤◌, [], length, if◌then◌else◌, Ok, Err, MatchResult, slice_index_or};
+ghost use Rattle.std.specs.Prelude.{◌≡◌, ◌<◌, ◌≤◌, [], length, if◌then◌else◌, Ok, Err, MatchResult, slice_index_or, slice_set};
 ghost use Rattle.refusals.specs.Numbers.{numbered};
 ghost use Rattle.refusals.specs.declared.Refusal.TheVariants.{IndexPastEnd};
 ghost use Rattle.store.specs.Held.{fits, with_unit, has_place, closed, dropped, unit_told};
 ghost use Rattle.store.specs.Leaves.{PutLeaves, CloseLeaves, LeavesAll};
 ghost use Rattle.cuts.specs.Lists.{SameLent};
-ghost use Rattle.units.specs.Views.{cells, ends, finished, meaning};
+ghost use Rattle.units.specs.Views.{cells, ends, count, used, finished, meaning};
 ghost use Rattle.units.specs.Law.{units_lawful};
 
 use super::Units;
@@ -21,6 +21,7 @@ impl<'a> ValueStore for Units<'a> {
     fn put(&mut self, unit: u16) -> Result<(), Refusal>
         ensures answer { numbered result ≡ (if fits length (meaning self.old) unit then Ok tt else Err 12) }
         ensures after { meaning self.new ≡ (if fits length (meaning self.old) unit then with_unit (meaning self.old) unit else meaning self.old) }
+        ensures cells { cells self.new ≡ (if fits length (meaning self.old) unit then slice_set (cells self.old) (used self.old) unit else cells self.old) }
         ensures leaves { PutLeaves (fits length (meaning self.old) unit) (finished self.old) (cells self.old) (cells self.new) (ends self.old) (ends self.new) }
         ensures lent { SameLent self.old.cuts self.new.cuts }
     {
@@ -30,6 +31,7 @@ impl<'a> ValueStore for Units<'a> {
     fn close(&mut self) -> Result<usize, Refusal>
         ensures answer { numbered result ≡ (if has_place (meaning self.old) then Ok (length (meaning self.old).values) else Err 11) }
         ensures after { meaning self.new ≡ (if has_place (meaning self.old) then closed (meaning self.old) else meaning self.old) }
+        ensures ends { ends self.new ≡ (if has_place (meaning self.old) then slice_set (ends self.old) (count self.old) (used self.old) else ends self.old) }
         ensures leaves { CloseLeaves (has_place (meaning self.old)) (length (meaning self.old).values) (cells self.old) (cells self.new) (ends self.old) (ends self.new) }
         ensures lent { SameLent self.old.cuts self.new.cuts }
     {
