@@ -13,7 +13,7 @@ use Rattle.coding.proofs.Trips.{narrow_units, narrow_front, units_wtf8, front, t
 use Rattle.cuts.specs.Lists.{lists}
 use Rattle.cuts.proofs.Cells as in_cells
 use Rattle.wtf8.specs.declared.Wtf8.{Wtf8}
-use Rattle.wtf8.specs.Views.{cells, ends, finished, opened, meaning, IsPlace}
+use Rattle.wtf8.specs.Views.{cells, ends, count, used, laid_with, finished, opened, meaning, IsPlace}
 use Rattle.wtf8.specs.Law.{values_weigh}
 use Rattle.wtf8.proofs.Steps as bytes
 
@@ -63,13 +63,6 @@ to_laid m i (b ∷ bs) h =
     ∙ to_laid (set m i b) (i + 1) bs (omega arith)
     ∙ ap (λ t. t ++ bs) (take_more_set m i b (omega arith))
     ∙ append_assoc (take i m) (b ∷ []) bs
-
--- how many places and bytes of a store are in use
-abbrev pub count : Wtf8 → ℕ
-count s = s.cuts.ends.used
-
-abbrev pub used : Wtf8 → ℕ
-used s = s.cuts.cells.used
 
 -- the bytes of each finished value
 abbrev pub stored : Wtf8 → List (List ℕ)
@@ -123,7 +116,7 @@ module _ (s : Wtf8) where
   pub no_place : min (length (ends s)) 4096 ≤ count s → has_place (meaning s) ≡ false
   no_place past = le-ltb (length (map units (stored s))) (min (length (ends s)) 4096) (let e = number_is in omega arith)
 
-  -- one value more
+  -- one value more: `set (ends s) (count s) (used s)` is what the clause `ends` of `close` says of the places
   module _ (room : count s < min (length (ends s)) 4096) where
     pub a_place : has_place (meaning s) ≡ true
     a_place = lt-ltb (length (map units (stored s))) (min (length (ends s)) 4096) (let e = number_is in omega arith)
@@ -236,6 +229,18 @@ module _ (s : Wtf8) where
           go None e = (start_in, omega arith)
           go (Some h) e = pick h e (high h && low u)
 
+      -- where the character begins, by the open value's bytes alone
+      pub from_open : finished s + min (length (opened s)) (from_of half (length (opened s)) u) ≡ from_of half (used s) u
+      from_open = go half refl
+        where
+          pick : (h : ℕ) → half ≡ Some h → (b : Bool) → finished s + min (length (opened s)) (cond b (length (opened s) - 3) (length (opened s))) ≡ cond b (used s - 3) (used s)
+          pick h e true = let q = before_half h e in let n = open_length in omega (arith, q.0)
+          pick h e false = let st = start_in in let n = open_length in omega arith
+
+          go : (h : Option ℕ) → half ≡ h → finished s + min (length (opened s)) (from_of h (length (opened s)) u) ≡ from_of h (used s) u
+          go None e = let st = start_in in let n = open_length in omega arith
+          go (Some h) e = pick h e (high h && low u)
+
       -- the open value's bytes with one unit more
       pub more_is : part (cells s) (finished s) (from_of half (used s) u) ++ encode (code_of half u) ≡ wtf8 (units (opened s) ++ (u ∷ []))
       more_is =
@@ -283,7 +288,7 @@ module _ (s : Wtf8) where
       pub free : from_of half (used s) u + length (encode (code_of half u)) ≤ min (length (cells s)) 1048576 → fits weight (meaning s) u ≡ true
       free room = le-leb (load weight (with_unit (meaning s) u)) (min (length (cells s)) 1048576) (let e = load_more in omega arith)
 
-      -- the bytes of the character that the unit completes, laid there
+      -- the bytes of the character that the unit completes, laid there: `after` is `laid_with s u`, what the clause `cells` of `put` says of the cells
       abbrev to : ℕ
       to = from_of half (used s) u + length (encode (code_of half u))
 
@@ -338,3 +343,11 @@ module _ (s : Wtf8) where
               same_values = take_laid (cells s) (from_of half (used s) u) (finished s) (encode (code_of half u)) f.0;
               past = drop_laid (cells s) (from_of half (used s) u) 1048576 (encode (code_of half u)) (omega arith);
             }
+
+-- what `put` lays in the cells, from what its calls answer
+pub put_laid : (s : Wtf8) (open_now : List ℕ) (half : Option ℕ) (u kept code : ℕ) (bs : List ℕ) → open_now ≡ opened s → (recode open_now ≡ open_now → half ≡ trail (units open_now)) → kept ≡ from_of half (length open_now) u → code ≡ code_of half u → bs ≡ encode code → laid (cells s) (finished s + min (length (opened s)) kept) bs ≡ laid_with s u
+put_laid s open_now half u kept code bs e last place is b =
+    let same : half ≡ trail (units (opened s)) = last (ap recode e ∙ s.fresh ∙ sym e) ∙ ap (λ t. trail (units t)) e in
+    let from : finished s + min (length (opened s)) kept ≡ from_of (trail (units (opened s))) (used s) u = ap (λ n. finished s + min (length (opened s)) n) (place ∙ ap (λ t. from_of half (length t) u) e) ∙ from_open s half same u ∙ ap (λ h. from_of h (used s) u) same in
+    let char : bs ≡ encode (code_of (trail (units (opened s))) u) = b ∙ ap encode (is ∙ ap (λ h. code_of h u) same) in
+    λ j. laid (cells s) (from j) (char j)

@@ -25,7 +25,7 @@ module _ (s : Wtf8) where
       let c = s.cuts in
       weighed_units (lists c) ∙ ap (weighed length) s.whole ∙ sym (add-zero _) ∙ weighed_is (used c) 0 (marks c) (length (used c)) c.rising (omega arith)
 
-  sound_is : Sound weight (meaning s)
+  pub sound_is : Sound weight (meaning s)
   sound_is =
       let c = s.cuts in
       let a = values_weigh in

@@ -1,11 +1,11 @@
-ghost use Rattle.std.specs.Prelude.{◌≡◌, ◌<◌, ◌≤◌, ◌-◌, [], length, if◌then◌else◌, Ok, Err, MatchResult, slice_index_or};
+ghost use Rattle.std.specs.Prelude.{◌≡◌, ◌<◌, ◌≤◌, ◌-◌, [], length, if◌then◌else◌, Ok, Err, MatchResult, slice_index_or, slice_set};
 ghost use Rattle.refusals.specs.Numbers.{numbered};
 ghost use Rattle.refusals.specs.declared.Refusal.TheVariants.{IndexPastEnd};
 ghost use Rattle.store.specs.Held.{fits, with_unit, has_place, closed, dropped};
 ghost use Rattle.store.specs.Leaves.{PutLeaves, CloseLeaves, LeavesAll};
 ghost use Rattle.coding.specs.Codes.{weight, wtf8};
 ghost use Rattle.cuts.specs.Lists.{SameLent};
-ghost use Rattle.wtf8.specs.Views.{cells, ends, finished, opened, all_bytes, meaning, IsPlace};
+ghost use Rattle.wtf8.specs.Views.{cells, ends, count, used, laid_with, finished, opened, all_bytes, meaning, IsPlace};
 ghost use Rattle.wtf8.specs.Law.{wtf8_lawful};
 
 use super::Wtf8;
@@ -42,6 +42,7 @@ impl<'a> ValueStore for Wtf8<'a> {
     fn put(&mut self, unit: u16) -> Result<(), Refusal>
         ensures answer { numbered result ≡ (if fits weight (meaning self.old) unit then Ok tt else Err 12) }
         ensures after { meaning self.new ≡ (if fits weight (meaning self.old) unit then with_unit (meaning self.old) unit else meaning self.old) }
+        ensures cells { cells self.new ≡ (if fits weight (meaning self.old) unit then laid_with self.old unit else cells self.old) }
         ensures leaves { PutLeaves (fits weight (meaning self.old) unit) (finished self.old) (cells self.old) (cells self.new) (ends self.old) (ends self.new) }
         ensures lent { SameLent self.old.cuts self.new.cuts }
     {
@@ -54,6 +55,7 @@ impl<'a> ValueStore for Wtf8<'a> {
     fn close(&mut self) -> Result<usize, Refusal>
         ensures answer { numbered result ≡ (if has_place (meaning self.old) then Ok (length (meaning self.old).values) else Err 11) }
         ensures after { meaning self.new ≡ (if has_place (meaning self.old) then closed (meaning self.old) else meaning self.old) }
+        ensures ends { ends self.new ≡ (if has_place (meaning self.old) then slice_set (ends self.old) (count self.old) (used self.old) else ends self.old) }
         ensures leaves { CloseLeaves (has_place (meaning self.old)) (length (meaning self.old).values) (cells self.old) (cells self.new) (ends self.old) (ends self.new) }
         ensures lent { SameLent self.old.cuts self.new.cuts }
     {
