@@ -63,11 +63,7 @@ impl<'a, V: Copy> SlotMap<'a, V> {
     pub fn find(&self, start: usize) -> Option<V>
         ensures { result ≡ lookup (entries_of self.now) start }
     {
-        self.slots
-            .as_slice()
-            .iter()
-            .find(|slot| slot.start == start)
-            .map(|slot| slot.value)
+        look(self.slots.as_slice(), start)
     }
 
     // One entry more. A start that has one keeps it.
@@ -99,4 +95,16 @@ impl<'a, V: Copy> SlotMap<'a, V> {
     {
         self.slots.truncate(0);
     }
+}
+
+// What the slots hold for a start: that of the first that has it. A `for`, since a `find` and a `map` take a step more for each slot.
+fn look<V: Copy>(slots: &[Slot<V>], start: usize) -> Option<V>
+    ensures { result ≡ lookup (entries slots.now) start }
+{
+    for slot in slots {
+        if slot.start == start {
+            return Some(slot.value);
+        }
+    }
+    None
 }
