@@ -66,7 +66,7 @@ impl<'t> Cursor<'t> {
     pub fn peek_char(&self) -> Option<(char, usize)>
         ensures { CharAt self.now.bytes.now self.now.place.at result }
     {
-        let rest = &self.text().as_str()[self.place.at..];
+        let rest = unsafe { std::str::from_utf8_unchecked(self.rest()) };
         let c = rest.chars().next()?;
         Some((c, self.place.at + c.len_utf8()))
     }

@@ -1,7 +1,13 @@
-use Rattle.std.proofs.Common.{◌≡◌, ◌++◌, drop, rules}
+use Rattle.std.proofs.Common.{◌≡◌, ◌++◌, drop, IsUtf8, sym, subst, rules}
 use lib.Utf8.{encode}
-use Rattle.source.proofs.Known.{char_at}
+use Rattle.std.proofs.lemmas.Str.{IsUtf8-drop}
+use Rattle.source.proofs.Known.{utf8_from, char_at}
 use Rattle.source.proofs.cursor.Cursor.peek_char.Goals as goal
+
+pub from_utf8_unchecked-rest-requires : goal.from_utf8_unchecked-rest-requires
+from_utf8_unchecked-rest-requires c =
+    let s = c.args.self.now in
+    subst (λ r. IsUtf8 r) (sym c.rest.ensures) (IsUtf8-drop s.bytes.now s.place.at (utf8_from s.bytes.now s.well) s.boundary)
 
 pub returns : goal.returns
 returns c =
