@@ -17,10 +17,14 @@ use Rattle.source.specs.Fronts.{Begins}
 use Rattle.source.specs.Texts.{CharAt, WellFormed}
 use Rattle.source.proofs.Known.{utf8_from}
 use Rattle.escapes.specs.Places.{At, Stands, Here}
+use Rattle.escapes.specs.declared.places.Site.{Site}
 
--- a cursor's place
+-- a cursor's place, and a reader's
 pub at_cursor : (c : Cursor) → At c.bytes.now c.place.at
 at_cursor c = record { text = utf8_from c.bytes.now c.well; boundary = c.boundary }
+
+pub at_site : (s : Site) → At s.bytes.now s.at
+at_site s = record { text = utf8_from s.bytes.now s.well; boundary = s.boundary }
 
 -- a cursor's character
 pub stands : (bs : List ℕ) (p c q : ℕ) → At bs p → CharAt bs p (Some (c, q)) → Stands bs p c q

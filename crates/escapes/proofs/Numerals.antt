@@ -6,11 +6,10 @@ use Rattle.grammar.specs.Utf8.{utf8}
 use Rattle.grammar.specs.Rule.{Ahead, but, member, hex_digit, hex_digits, digit, Run, mv, just_above, meets}
 use Rattle.grammar.specs.Production.{code_point}
 use Rattle.grammar.proofs.Digits.{run_push, mv_push, meets_most, meets_lifted}
-use Rattle.source.specs.declared.cursor.Cursor.{Cursor}
 use Rattle.escapes.specs.Places.{At}
 use Rattle.escapes.specs.Digits.{Digit, Digits, TakesHex, Skipped}
 use Rattle.escapes.specs.declared.digits.HexDigits.{HexDigits}
-use Rattle.escapes.proofs.Looks.{at_cursor}
+use Rattle.escapes.proofs.Looks.{at_site}
 
 pub length_more : (ds : List ℕ) (d : ℕ) → length (ds ++ d ∷ []) ≡ length ds + 1
 length_more ds d = length-append ds (d ∷ [])
@@ -49,30 +48,30 @@ digits_done bs p v q r n x l e = subst (λ (z : ℕ). (y : Digits bs p v z) × (
 
 -- a reader of digits that began at p took n of them, with value v
 pub record Took (bs : List ℕ) (p : ℕ) (r : HexDigits) (v n : ℕ) : Type 0 where
-  pub text : r.cursor.bytes.now ≡ bs
-  pub digits : Digits bs p v r.cursor.place.at
+  pub text : r.site.bytes.now ≡ bs
+  pub digits : Digits bs p v r.site.at
   pub count : length digits.chars ≡ n
 
-pub took_none : (c : Cursor) → Took c.bytes.now c.place.at (record { cursor = c }) 0 0
-took_none c = let d = digits_none c.bytes.now c.place.at c.place.at refl (at_cursor c) in record { text = refl; digits = d.0; count = d.1 }
+pub took_none : (r : HexDigits) → Took r.site.bytes.now r.site.at r 0 0
+took_none r = let d = digits_none r.site.bytes.now r.site.at r.site.at refl (at_site r.site) in record { text = refl; digits = d.0; count = d.1 }
 
 pub took_more : (bs : List ℕ) (p v n d : ℕ) (r s : HexDigits) → Took bs p r v n → TakesHex r (Some d) s → Took bs p s (v * 16 + d) (n + 1)
 took_more bs p v n d r s t (e, f, g, _) =
-    let x = digits_more bs p v r.cursor.place.at s.cursor.place.at n d f t.digits t.count (subst (λ (z : List ℕ). Digit hex_digits z r.cursor.place.at d) t.text g) in
+    let x = digits_more bs p v r.site.at s.site.at n d f t.digits t.count (subst (λ (z : List ℕ). Digit hex_digits z r.site.at d) t.text g) in
     record { text = e ∙ t.text; digits = x.0; count = x.1 }
 
-pub took_first : (c : Cursor) (d : ℕ) (s : HexDigits) → TakesHex (record { cursor = c }) (Some d) s → Took c.bytes.now c.place.at s d 1
-took_first c d s h = subst (λ (z : ℕ). Took c.bytes.now c.place.at s z 1) (omega arith) (took_more c.bytes.now c.place.at 0 0 d (record { cursor = c }) s (took_none c) h)
+pub took_first : (r s : HexDigits) (d : ℕ) → TakesHex r (Some d) s → Took r.site.bytes.now r.site.at s d 1
+took_first r s d h = subst (λ (z : ℕ). Took r.site.bytes.now r.site.at s z 1) (omega arith) (took_more r.site.bytes.now r.site.at 0 0 d r s (took_none r) h)
 
-pub took_end : (bs : List ℕ) (p v n : ℕ) (r s : HexDigits) → Took bs p r v n → TakesHex r None s → Took bs p s v n × Ahead (utf8 bs s.cursor.place.at) (but hex_digits) true
+pub took_end : (bs : List ℕ) (p v n : ℕ) (r s : HexDigits) → Took bs p r v n → TakesHex r None s → Took bs p s v n × Ahead (utf8 bs s.site.at) (but hex_digits) true
 took_end bs p v n r s t (e, f, g) =
-    let x = digits_done bs p v r.cursor.place.at s.cursor.place.at n t.digits t.count f in (
+    let x = digits_done bs p v r.site.at s.site.at n t.digits t.count f in (
       record { text = e ∙ t.text; digits = x.0; count = x.1 },
-      subst (λ (z : ℕ). Ahead (utf8 bs z) (but hex_digits) true) (sym f) (subst (λ (z : List ℕ). Ahead (utf8 z r.cursor.place.at) (but hex_digits) true) t.text g),
+      subst (λ (z : ℕ). Ahead (utf8 bs z) (but hex_digits) true) (sym f) (subst (λ (z : List ℕ). Ahead (utf8 z r.site.at) (but hex_digits) true) t.text g),
     )
 
 pub took_small : (bs : List ℕ) (p v n : ℕ) (r : HexDigits) → Took bs p r v n → n < 4 → v < 4096
-took_small bs p v n r t l = digits_small bs p v r.cursor.place.at n t.digits t.count l
+took_small bs p v n r t l = digits_small bs p v r.site.at n t.digits t.count l
 
 -- all of them
 pub took_all : (bs : List ℕ) (p v n : ℕ) (r s : HexDigits) (ds : List ℕ) → Took bs p r v n → Yields TakesHex r ds s → (w : ℕ) × Took bs p s w (n + length ds)
@@ -81,12 +80,12 @@ took_all bs p v n r s (d ∷ ds) t (j, k, l) =
     let (w, x) = took_all bs p (v * 16 + d) (n + 1) j s ds (took_more bs p v n d r j t k) l in
     (w, subst (λ (z : ℕ). Took bs p s w z) (omega arith) x)
 
-pub skipped : (c : Cursor) (r s : HexDigits) (ds : List ℕ) (q : ℕ) → Yields TakesHex (record { cursor = c }) ds r → TakesHex r None s → q ≡ c.place.at + length ds → Skipped c.bytes.now c.place.at q
-skipped c r s ds q y e f =
-    let (v, t) = took_all c.bytes.now c.place.at 0 0 (record { cursor = c }) r ds (took_none c) y in
-    let (u, a) = took_end c.bytes.now c.place.at v (0 + length ds) r s t e in
-    let g : q ≡ s.cursor.place.at = omega (arith, u.digits.moves, u.count) in
-    subst (Skipped c.bytes.now c.place.at) (sym g) (v, u.digits, a)
+pub skipped : (b r s : HexDigits) (ds : List ℕ) (q : ℕ) → Yields TakesHex b ds r → TakesHex r None s → q ≡ b.site.at + length ds → Skipped b.site.bytes.now b.site.at q
+skipped b r s ds q y e f =
+    let (v, t) = took_all b.site.bytes.now b.site.at 0 0 b r ds (took_none b) y in
+    let (u, a) = took_end b.site.bytes.now b.site.at v (0 + length ds) r s t e in
+    let g : q ≡ s.site.at = omega (arith, u.digits.moves, u.count) in
+    subst (Skipped b.site.bytes.now b.site.at) (sym g) (v, u.digits, a)
 
 -- code points
 pub digits_lift : (bs : List ℕ) (p v q r n d : ℕ) → r ≡ q + 1 → (x : Digits bs p v q) → length x.chars ≡ n → Digit hex_digits bs q d → v ≤ 1114111 → 1114111 < v * 16 + d → (w : ℕ) × (y : Digits bs p w r) × T (meets (just_above 0x10FFFF) y.chars)
@@ -102,9 +101,9 @@ digits_fit bs p v q x l h = go x.chars l (omega (arith, x.value))
     go (d ∷ ds) l k = meets_most 1114111 d ds k
 
 pub took_lift : (bs : List ℕ) (p v n d : ℕ) (r s : HexDigits) → Took bs p r v n → v ≤ 1114111 → TakesHex r (Some d) s → 1114111 < v * 16 + d
-    → (w : ℕ) × (y : Digits bs p w s.cursor.place.at) × T (meets (just_above 0x10FFFF) y.chars)
+    → (w : ℕ) × (y : Digits bs p w s.site.at) × T (meets (just_above 0x10FFFF) y.chars)
 took_lift bs p v n d r s t l (_, f, g, _) k =
-    digits_lift bs p v r.cursor.place.at s.cursor.place.at n d f t.digits t.count (subst (λ (z : List ℕ). Digit hex_digits z r.cursor.place.at d) t.text g) l k
+    digits_lift bs p v r.site.at s.site.at n d f t.digits t.count (subst (λ (z : List ℕ). Digit hex_digits z r.site.at d) t.text g) l k
 
 pub took_fit : (bs : List ℕ) (p v n : ℕ) (r : HexDigits) → (t : Took bs p r v n) → 0 < n → v ≤ 1114111 → T (meets code_point t.digits.chars)
-took_fit bs p v n r t l m = digits_fit bs p v r.cursor.place.at t.digits (omega (arith, t.count)) m
+took_fit bs p v n r t l m = digits_fit bs p v r.site.at t.digits (omega (arith, t.count)) m

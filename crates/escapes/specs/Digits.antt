@@ -35,8 +35,8 @@ pub record Digits (bs : List ℕ) (p v q : ℕ) : Type 0 where
 
 -- the next of the digits is taken, or none stands there, and the reader stays
 abbrev pub TakesHex : HexDigits → Option ℕ → HexDigits → Type 0
-TakesHex r None s = (s.cursor.bytes.now ≡ r.cursor.bytes.now) × (s.cursor.place.at ≡ r.cursor.place.at) × Ahead (utf8 r.cursor.bytes.now r.cursor.place.at) (but hex_digits) true
-TakesHex r (Some v) s = (s.cursor.bytes.now ≡ r.cursor.bytes.now) × (s.cursor.place.at ≡ r.cursor.place.at + 1) × Digit hex_digits r.cursor.bytes.now r.cursor.place.at v × (v < 16)
+TakesHex r None s = (s.site.bytes.now ≡ r.site.bytes.now) × (s.site.at ≡ r.site.at) × Ahead (utf8 r.site.bytes.now r.site.at) (but hex_digits) true
+TakesHex r (Some v) s = (s.site.bytes.now ≡ r.site.bytes.now) × (s.site.at ≡ r.site.at + 1) × Digit hex_digits r.site.bytes.now r.site.at v × (v < 16)
 
 -- n of them, or fewer with no other behind
 abbrev pub HexRead : List ℕ → ℕ → ℕ → Result (ℕ × ℕ) Invalid → Type 0

@@ -5,9 +5,8 @@ ghost use Rattle.grammar.specs.Rule.{member, hex_digit, digit};
 ghost use Rattle.grammar.specs.Production.{octal_digits};
 ghost use Rattle.escapes.specs.Digits.{DigitAt, DecimalAt, TakesHex, HexRead, CodePointRead, Skipped};
 
-use crate::places::{ahead, ascii_at};
+use crate::places::{Site, ascii_at, past_byte};
 use crate::unicode::Invalid;
-use source::cursor::Cursor;
 
 // The value of a hex digit: a `u8`, where `char::to_digit` gives a `u32` that each reader of units would have to narrow.
 fn hex_value(b: u8) -> Option<u8>
@@ -22,18 +21,18 @@ fn hex_value(b: u8) -> Option<u8>
     }
 }
 
-// The hex digits from a cursor on, by their values.
+// The hex digits from a place on, by their values.
 #[derive(Drop)]
 pub(crate) struct HexDigits<'t> {
-    cursor: Cursor<'t>,
+    site: Site<'t>,
 }
 
 impl HexDigits<'_> {
     // The place behind those that were taken.
     fn place(&self) -> usize
-        ensures { result ≡ self.now.cursor.place.at }
+        ensures { result ≡ self.now.site.at }
     {
-        self.cursor.place()
+        self.site.at
     }
 }
 
@@ -42,39 +41,39 @@ impl Iterator for HexDigits<'_> {
 
     ghost next_gives = { TakesHex };
 
-    ghost remaining = { λ r. at_most (length r.cursor.bytes.now - r.cursor.place.at) };
+    ghost remaining = { λ r. at_most (length r.site.bytes.now - r.site.at) };
 
     fn next(&mut self) -> Option<u8> {
-        let digit = hex_value(ascii_at(self.cursor)?)?;
-        self.cursor = ahead(self.cursor, 1);
+        let digit = hex_value(ascii_at(self.site)?)?;
+        self.site = past_byte(self.site);
         Some(digit)
     }
 }
 
-// The value of the octal digit at a cursor.
-pub(crate) fn octal_at(cursor: Cursor<'_>) -> Option<u8>
-    ensures digit_at { DigitAt octal_digits cursor.entry.bytes.now cursor.entry.place.at result }
+// The value of the octal digit at a place.
+pub(crate) fn octal_at(site: Site<'_>) -> Option<u8>
+    ensures digit_at { DigitAt octal_digits site.entry.bytes.now site.entry.at result }
     ensures small { IfSome result (λ v. v < 8) }
 {
-    match ascii_at(cursor)? {
+    match ascii_at(site)? {
         b @ b'0'..=b'7' => Some(b - b'0'),
         _ => None,
     }
 }
 
-// Whether a decimal digit stands at a cursor.
-pub(crate) fn decimal_at(cursor: Cursor<'_>) -> bool
-    ensures { DecimalAt cursor.entry.bytes.now cursor.entry.place.at result }
+// Whether a decimal digit stands at a place.
+pub(crate) fn decimal_at(site: Site<'_>) -> bool
+    ensures { DecimalAt site.entry.bytes.now site.entry.at result }
 {
-    matches!(ascii_at(cursor), Some(b'0'..=b'9'))
+    matches!(ascii_at(site), Some(b'0'..=b'9'))
 }
 
-// `count` hex digits from a cursor on: their value and the place behind them, or the place reached where there are fewer.
-pub(crate) fn hex_digits(cursor: Cursor<'_>, count: usize) -> Result<(u16, usize), Invalid>
+// `count` hex digits from a place on: their value and the place behind them, or the place reached where there are fewer.
+pub(crate) fn hex_digits(site: Site<'_>, count: usize) -> Result<(u16, usize), Invalid>
     requires { count ≤ 4 }
-    ensures { HexRead cursor.entry.bytes.now cursor.entry.place.at count result }
+    ensures { HexRead site.entry.bytes.now site.entry.at count result }
 {
-    let mut digits = HexDigits { cursor };
+    let mut digits = HexDigits { site };
     let mut value: u16 = 0;
     for _ in 0..count {
         let digit = digits.next().ok_or(Invalid {
@@ -92,11 +91,11 @@ pub(crate) enum NoCodePoint {
     Over(usize),
 }
 
-// Hex digits from a cursor on, as long as they make a code point: its value and the place behind.
-pub(crate) fn code_point(cursor: Cursor<'_>) -> Result<(u32, usize), NoCodePoint>
-    ensures { CodePointRead cursor.entry.bytes.now cursor.entry.place.at result }
+// Hex digits from a place on, as long as they make a code point: its value and the place behind.
+pub(crate) fn code_point(site: Site<'_>) -> Result<(u32, usize), NoCodePoint>
+    ensures { CodePointRead site.entry.bytes.now site.entry.at result }
 {
-    let mut digits = HexDigits { cursor };
+    let mut digits = HexDigits { site };
     let first = digits.next().ok_or(NoCodePoint::Missing)?;
     let mut value = u32::from(first);
     while let Some(digit) = digits.next() {
@@ -108,9 +107,9 @@ pub(crate) fn code_point(cursor: Cursor<'_>) -> Result<(u32, usize), NoCodePoint
     Ok((value, digits.place()))
 }
 
-// The place behind the hex digits from a cursor on.
-pub(crate) fn skip_hex(cursor: Cursor<'_>) -> usize
-    ensures { Skipped cursor.entry.bytes.now cursor.entry.place.at result }
+// The place behind the hex digits from a place on.
+pub(crate) fn skip_hex(site: Site<'_>) -> usize
+    ensures { Skipped site.entry.bytes.now site.entry.at result }
 {
-    cursor.place() + HexDigits { cursor }.count()
+    site.at + HexDigits { site }.count()
 }

@@ -5,8 +5,8 @@ use Rattle.escapes.proofs.digits.code_point.Goals as goal
 
 pub loop-digit-init : goal.loop-digit-init
 loop-digit-init c =
-    let h : TakesHex (record { cursor = c.args.cursor }) (Some c.in_ok-first.first) c.next.new.self = search rules in
-    rw c.from-value.ensures (1, took_first c.args.cursor c.in_ok-first.first c.next.new.self h, omega arith, omega (arith, h.3))
+    let h : TakesHex (record { site = c.args.site }) (Some c.in_ok-first.first) c.next.new.self = search rules in
+    rw c.from-value.ensures (1, took_first (record { site = c.args.site }) c.next.new.self c.in_ok-first.first h, omega arith, omega (arith, h.3))
 
 pub returns-then-value-gt1114111 : goal.returns-then-value-gt1114111
 returns-then-value-gt1114111 c =

@@ -4,13 +4,13 @@ use Rattle.escapes.proofs.Numerals.{took_none, took_more, took_end, took_small}
 use Rattle.escapes.proofs.digits.hex_digits.Goals as goal
 
 pub loop-init : goal.loop-init
-loop-init c = took_none c.args.cursor
+loop-init c = took_none _
 
 pub returns-in_err-digit : goal.returns-in_err-digit
 returns-in_err-digit c =
     let h : TakesHex c.loop.digits None c.next.new.self = search rules in
     let (t, a) = took_end _ _ c.loop.value _ _ c.next.new.self c.loop.invariant h in
-    let e : c.from_residual.result ≡ Err (record { next = c.next.new.self.cursor.place.at }) = search rules in
+    let e : c.from_residual.result ≡ Err (record { next = c.next.new.self.site.at }) = search rules in
     rw e (c.loop.value, t.digits, omega (arith, t.count), a)
 
 pub overflow_mul-value : goal.overflow_mul-value

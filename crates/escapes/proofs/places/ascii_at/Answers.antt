@@ -1,19 +1,23 @@
-use Rattle.std.proofs.Common.{[], ◌∷◌, sym, subst, arith}
+use Rattle.std.proofs.Common.{◌≡◌, ◌<◌, [], ◌∷◌, length, get_or, subst, arith, rules}
 use Rattle.escapes.specs.Places.{Here}
-use Rattle.escapes.proofs.Looks.{at_cursor, here, ahead_end, no_ascii}
+use Rattle.escapes.proofs.Looks.{at_site, here, ahead_end, no_ascii}
 use Rattle.escapes.proofs.places.ascii_at.Goals as goal
 
 pub returns-in_err-b : goal.returns-in_err-b
-returns-in_err-b c = rw c.from_residual.ensures (ahead_end c.args.cursor.bytes.now c.args.cursor.place.at ((0, 127) ∷ []) (omega (arith, c.in_err-b.ensures)))
+returns-in_err-b c =
+    let h = c.get.ensures.lookup in
+    rw c.from_residual.ensures (ahead_end c.args.site.bytes.now c.args.site.at ((0, 127) ∷ []) (search rules))
 
 pub returns-in-0-to-127 : goal.returns-in-0-to-127
 returns-in-0-to-127 c =
-    let s = c.args.cursor in
-    let (l, e) = c.in_ok-b.ensures in
-    subst (Here s.bytes.now s.place.at) (sym e) (here s.bytes.now s.place.at (at_cursor s) l (omega (arith, e)))
+    let bs = c.args.site.bytes.now in
+    let p = c.args.site.at in
+    let f : (p < length bs) × (get_or bs p 0 ≡ c.in_ok-b.field-0.now) = search rules in
+    subst (Here bs p) f.1 (here bs p (at_site c.args.site) f.0 (omega (arith, f.1)))
 
 pub returns-in_default : goal.returns-in_default
 returns-in_default c =
-    let s = c.args.cursor in
-    let (l, e) = c.in_ok-b.ensures in
-    no_ascii s.bytes.now s.place.at (at_cursor s) l (omega (arith, e))
+    let bs = c.args.site.bytes.now in
+    let p = c.args.site.at in
+    let f : (p < length bs) × (get_or bs p 0 ≡ c.in_ok-b.field-0.now) = search rules in
+    no_ascii bs p (at_site c.args.site) f.0 (omega (arith, f.1))
