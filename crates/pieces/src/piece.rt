@@ -74,23 +74,22 @@ fn find_stop(cursor: Cursor<'_>, opening: Opening) -> Option<(usize, u8)>
 }
 
 // A backslash in a literal.
-fn backslash(cursor: Cursor<'_>, opening: Opening) -> Stop
-    requires { Here cursor.bytes.now cursor.place.at 92 }
-    ensures { StopRead (body_of opening) cursor.entry.bytes.now cursor.entry.place.at result }
+fn backslash(cursor: Cursor<'_>, at: usize, opening: Opening) -> Stop
+    requires { Here cursor.bytes.now at 92 }
+    ensures { StopRead (body_of opening) cursor.entry.bytes.now at result }
 {
-    let behind = cursor.moved(cursor.place() + 1);
+    let behind = cursor.moved(at + 1);
     match read_escape(behind, opening.in_template()) {
-        None => Stop::End(Ending::LastBackslash, behind.place()),
+        None => Stop::End(Ending::LastBackslash, at + 1),
         Some(escape) => Stop::Escape(escape),
     }
 }
 
 // A dollar sign in a template.
-fn dollar(cursor: Cursor<'_>) -> Stop
-    requires { Here cursor.bytes.now cursor.place.at 36 }
-    ensures { StopRead template cursor.entry.bytes.now cursor.entry.place.at result }
+fn dollar(cursor: Cursor<'_>, at: usize) -> Stop
+    requires { Here cursor.bytes.now at 36 }
+    ensures { StopRead template cursor.entry.bytes.now at result }
 {
-    let at = cursor.place();
     match cursor.bytes().get(at + 1) {
         Some(b'{') => Stop::End(Ending::Substitution, at + 2),
         _ => Stop::Dollar(at + 1),
@@ -98,50 +97,49 @@ fn dollar(cursor: Cursor<'_>) -> Stop
 }
 
 // A CR in a template.
-fn carriage_return(cursor: Cursor<'_>) -> Stop
-    requires { Here cursor.bytes.now cursor.place.at 13 }
-    ensures { StopRead template cursor.entry.bytes.now cursor.entry.place.at result }
+fn carriage_return(cursor: Cursor<'_>, at: usize) -> Stop
+    requires { Here cursor.bytes.now at 13 }
+    ensures { StopRead template cursor.entry.bytes.now at result }
 {
-    let at = cursor.place();
     let next = behind::<b'\r', b'\n'>(cursor.bytes(), at).unwrap_or(at + 1);
     Stop::Return(next)
 }
 
 // A stop of a string that is no backslash.
-fn string_stop(cursor: Cursor<'_>, byte: u8, opening: Opening) -> Stop
-    requires { (Here cursor.bytes.now cursor.place.at byte) × ((stops_in (body_of opening) byte ≡ true) × (((byte ≢ 92)) × (is_template (body_of opening) ≡ false))) }
-    ensures { StopRead (body_of opening) cursor.entry.bytes.now cursor.entry.place.at result }
+fn string_stop(cursor: Cursor<'_>, at: usize, byte: u8, opening: Opening) -> Stop
+    requires { (Here cursor.bytes.now at byte) × ((stops_in (body_of opening) byte ≡ true) × (((byte ≢ 92)) × (is_template (body_of opening) ≡ false))) }
+    ensures { StopRead (body_of opening) cursor.entry.bytes.now at result }
 {
     let ending = match byte {
         b'\r' | b'\n' => Ending::LineBreak,
         _ => Ending::Closed,
     };
-    Stop::End(ending, cursor.place() + 1)
+    Stop::End(ending, at + 1)
 }
 
 // A stop of a template that is no backslash.
-fn template_stop(cursor: Cursor<'_>, byte: u8) -> Stop
-    requires { (Here cursor.bytes.now cursor.place.at byte) × ((stops_in template byte ≡ true) × ((byte ≢ 92))) }
-    ensures { StopRead template cursor.entry.bytes.now cursor.entry.place.at result }
+fn template_stop(cursor: Cursor<'_>, at: usize, byte: u8) -> Stop
+    requires { (Here cursor.bytes.now at byte) × ((stops_in template byte ≡ true) × ((byte ≢ 92))) }
+    ensures { StopRead template cursor.entry.bytes.now at result }
 {
     match byte {
-        b'$' => dollar(cursor),
-        b'\r' => carriage_return(cursor),
-        _ => Stop::End(Ending::Closed, cursor.place() + 1),
+        b'$' => dollar(cursor, at),
+        b'\r' => carriage_return(cursor, at),
+        _ => Stop::End(Ending::Closed, at + 1),
     }
 }
 
-// The stop at a cursor.
-fn stop_at(cursor: Cursor<'_>, byte: u8, opening: Opening) -> Stop
-    requires { (Here cursor.bytes.now cursor.place.at byte) × (stops_in (body_of opening) byte ≡ true) }
-    ensures { StopRead (body_of opening) cursor.entry.bytes.now cursor.entry.place.at result }
+// The stop at a place of a cursor's text. It is no cursor's own place yet: a cursor tests each place that it moves to.
+fn stop_at(cursor: Cursor<'_>, at: usize, byte: u8, opening: Opening) -> Stop
+    requires { (Here cursor.bytes.now at byte) × (stops_in (body_of opening) byte ≡ true) }
+    ensures { StopRead (body_of opening) cursor.entry.bytes.now at result }
 {
     if byte == b'\\' {
-        backslash(cursor, opening)
+        backslash(cursor, at, opening)
     } else if opening.in_template() {
-        template_stop(cursor, byte)
+        template_stop(cursor, at, byte)
     } else {
-        string_stop(cursor, byte, opening)
+        string_stop(cursor, at, byte, opening)
     }
 }
 
@@ -157,7 +155,7 @@ pub fn next_piece(cursor: Cursor<'_>, opening: Opening) -> Piece
         },
         Some((to, byte)) => Piece {
             to,
-            stop: stop_at(cursor.moved(to), byte, opening),
+            stop: stop_at(cursor, to, byte, opening),
         },
     }
 }

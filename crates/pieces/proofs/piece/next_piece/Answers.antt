@@ -7,9 +7,8 @@ use Rattle.pieces.proofs.piece.next_piece.Goals as goal
 pub stop_at-requires : goal.stop_at-requires
 stop_at-requires c =
     let s = c.args.cursor in
-    let m = c.moved.ensures in
     let h = c.in-Some.ensures in
-    (rw m.text (rw (m.moves h.boundary) (stop_here (body_of c.args.opening) s.bytes.now s.place.at c.in-Some.to c.in-Some.byte (at_cursor s) h.first h.boundary)), h.first.stop)
+    (stop_here (body_of c.args.opening) s.bytes.now s.place.at c.in-Some.to c.in-Some.byte (at_cursor s) h.first h.boundary, h.first.stop)
 
 pub returns-in-None : goal.returns-in-None
 returns-in-None c =
@@ -20,9 +19,8 @@ returns-in-None c =
 pub returns-in-Some : goal.returns-in-Some
 returns-in-Some c =
     let s = c.args.cursor in
-    let m = c.moved.ensures in
     let h = c.in-Some.ensures in
     record {
       plain = plain (body_of c.args.opening) s.bytes.now s.place.at c.in-Some.to (at_cursor s) h.boundary h.first.behind h.first.first;
-      stop = rw m.text at (rw (m.moves h.boundary) at c.stop_at.ensures);
+      stop = c.stop_at.ensures;
     }

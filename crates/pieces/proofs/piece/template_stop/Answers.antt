@@ -4,4 +4,4 @@ use Rattle.pieces.proofs.piece.template_stop.Goals as goal
 
 pub returns-in_default : goal.returns-in_default
 returns-in_default c =
-    rw c.place.ensures (template_closed c.args.cursor.bytes.now c.args.cursor.place.at c.args.byte c.requires.0 c.requires.1.0 c.requires.1.1 (λ e. search rules) (λ e. search rules))
+    template_closed c.args.cursor.bytes.now c.args.at c.args.byte c.requires.0 c.requires.1.0 c.requires.1.1 (λ e. search rules) (λ e. search rules)
