@@ -1,5 +1,6 @@
 -- What opens at a literal's start. Assumes nothing.
-use Rattle.std.proofs.Common.{◌≡◌, ℕ, ◌+◌, ◌<◌, List, [], ◌∷◌, length, get_or, refl, subst, arith}
+use Rattle.std.proofs.Common.{◌≡◌, ℕ, ◌+◌, ◌<◌, true, List, [], ◌∷◌, length, get_or, sym, refl, ◌∙◌, subst, ⊎_elim, arith}
+use Rattle.std.proofs.lemmas.Bool.{true≢false}
 use Rattle.std.proofs.lemmas.Str.{IsCharBoundary-before_ascii}
 use Rattle.std.specs.Str.{IsCharBoundary}
 use Rattle.grammar.specs.Utf8.{utf8}
@@ -14,8 +15,10 @@ use Rattle.escapes.proofs.Nodes.{stop}
 use Rattle.pieces.specs.Pieces.{scan_of}
 use Rattle.pieces.specs.declared.piece.Opening.{Opening}
 use Rattle.pieces.specs.declared.piece.Opening.TheVariants.{Double, Single, Template, Resumption}
-use Rattle.look.specs.Looked.{opener}
+use Rattle.refusals.specs.declared.Refusal.{Refusal}
+use Rattle.look.specs.Looked.{opens, opener, Refused}
 use Rattle.look.specs.Units.{Opened}
+use Rattle.look.specs.declared.answer.Scan.{Scan}
 use Rattle.look.specs.declared.literal.Literal.{Literal}
 
 low : (o : Opening) → opener o < 128
@@ -40,6 +43,10 @@ opened bs start o w l e =
 
 pub opened_in : (l : Literal) → Opened l.inside.bytes.now l.start l.opening
 opened_in l = opened l.inside.bytes.now l.start l.opening l.inside.well l.within l.opened
+
+-- where a scan opens, nothing is refused
+pub not_refused : (bs : List ℕ) (start : ℕ) (s : Scan) (e : Refusal) → Refused bs start s e → start < length bs → opens s (get_or bs start 0) ≡ true → ⊥
+not_refused bs start s e r l o = ⊎_elim (λ (a, b). omega arith) (λ (a, b, c). true≢false (sym o ∙ c)) r
 
 -- a place of a text
 pub place : (bs : List ℕ) (p : ℕ) → WellFormed bs → IsCharBoundary bs p → At bs p

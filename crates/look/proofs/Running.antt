@@ -14,11 +14,10 @@ use Rattle.pieces.specs.declared.piece.Piece.{Piece}
 use Rattle.source.specs.declared.cursor.Cursor.{Cursor}
 use Rattle.look.specs.Goes.{PassedRead, faults_at}
 use Rattle.look.specs.Runs.{Upto, Ran}
+use Rattle.look.specs.Units.{Opened}
 use Rattle.look.specs.declared.go.Passed.{Passed}
-use Rattle.look.specs.declared.literal.Literal.{Literal}
 use Rattle.look.specs.declared.run.Tally.{Tally}
 use Rattle.look.specs.declared.run.Run.{Run}
-use Rattle.look.proofs.Opens.{opened_in}
 
 some_joined : (u v : Option (List ℕ)) → is_some (joined u v) ≡ (is_some u && is_some v)
 some_joined None v = refl
@@ -78,38 +77,37 @@ one_more w = go w.faulty
 
 -- A PIECE THAT IS PASSED
 
--- what next_piece told of a cursor, of its literal's bytes
-pub in_literal : (l : Literal) (k : Cursor) (y : Piece) → k.bytes.now ≡ l.inside.bytes.now → PieceRead (body_of l.opening) k.bytes.now k.place.at y.to y.stop → PieceRead (body_of l.opening) l.inside.bytes.now k.place.at y.to y.stop
-in_literal l k y e x = subst (λ z. PieceRead (body_of l.opening) z k.place.at y.to y.stop) e x
+-- what next_piece told of a cursor, of bytes that are its own
+pub piece_in : (bs : List ℕ) (o : Opening) (k : Cursor) (y : Piece) → k.bytes.now ≡ bs → PieceRead (body_of o) k.bytes.now k.place.at y.to y.stop → PieceRead (body_of o) bs k.place.at y.to y.stop
+piece_in bs o k y e x = subst (λ z. PieceRead (body_of o) z k.place.at y.to y.stop) e x
 
 -- a cursor k, moved behind the stop of its piece, stands at `at`
-pub record On (l : Literal) (k : Cursor) (y : Piece) (w : Passed) (at : ℕ) : Type 0 where
-  pub plain : Plain (body_of l.opening) l.inside.bytes.now k.place.at y.to
-  pub passed : PassedRead (body_of l.opening) l.inside.bytes.now y.to w
+pub record On (bs : List ℕ) (o : Opening) (k : Cursor) (y : Piece) (w : Passed) (at : ℕ) : Type 0 where
+  pub plain : Plain (body_of o) bs k.place.at y.to
+  pub passed : PassedRead (body_of o) bs y.to w
   pub place : at ≡ w.next
   pub moves : k.place.at < at
-  pub within : at ≤ length l.inside.bytes.now
+  pub within : at ≤ length bs
 
 pub on :
-    (l : Literal) (k : Cursor) (y : Piece) (w : Passed) (m : Bool) (at : ℕ) → k.bytes.now ≡ l.inside.bytes.now → PieceRead (body_of l.opening) k.bytes.now k.place.at y.to y.stop → m ≡ is_template (body_of l.opening)
-    → ((b : Body) (bs : List ℕ) (p : ℕ) → is_template b ≡ m → StopRead b bs p y.stop → PassedRead b bs p w) → (IsCharBoundary k.bytes.now w.next → at ≡ w.next) → On l k y w at
-on l k y w m at e x f g h =
-    let z = in_literal l k y e x in
-    let v = g (body_of l.opening) l.inside.bytes.now y.to (sym f) z.stop in
+    (bs : List ℕ) (o : Opening) (k : Cursor) (y : Piece) (w : Passed) (m : Bool) (at : ℕ) → k.bytes.now ≡ bs → PieceRead (body_of o) k.bytes.now k.place.at y.to y.stop → m ≡ is_template (body_of o)
+    → ((b : Body) (bs : List ℕ) (p : ℕ) → is_template b ≡ m → StopRead b bs p y.stop → PassedRead b bs p w) → (IsCharBoundary k.bytes.now w.next → at ≡ w.next) → On bs o k y w at
+on bs o k y w m at e x f g h =
+    let z = piece_in bs o k y e x in
+    let v = g (body_of o) bs y.to (sym f) z.stop in
     let i = h (subst (λ c. IsCharBoundary c w.next) (sym e) v.on.behind.boundary) in
     record { plain = z.plain; passed = v; place = i; moves = omega (arith, z.plain.order, v.on.moves); within = omega (arith, v.on.behind.boundary.0) }
 
--- THE LOOP
+-- THE LOOP, from p₀ on
 
 pub reached_on :
-    (l : Literal) (k : Cursor) (y : Piece) (w : Passed) (at : ℕ) (t r : Tally) → On l k y w at → Counted t w r → t.faults ≤ k.place.at → Upto l.inside.bytes.now l.start l.opening k.place.at t
-    → (r.faults ≤ at) × Upto l.inside.bytes.now l.start l.opening at r
-reached_on l k y w at t r d c n x =
-    let bs = l.inside.bytes.now in
-    (omega (arith, c.0, one_more w, d.moves), subst (λ z. Upto bs l.start l.opening z r) (sym d.place) (upto_on bs l.start l.opening k.place.at y.to t r w x d.plain d.passed c))
+    (bs : List ℕ) (o : Opening) (p₀ : ℕ) (k : Cursor) (y : Piece) (w : Passed) (at : ℕ) (t r : Tally) → On bs o k y w at → Counted t w r → t.faults ≤ k.place.at → ((start : ℕ) → p₀ ≡ start + 1 → Upto bs start o k.place.at t)
+    → (r.faults ≤ at) × ((start : ℕ) → p₀ ≡ start + 1 → Upto bs start o at r)
+reached_on bs o p₀ k y w at t r d c n x = (
+  omega (arith, c.0, one_more w, d.moves),
+  λ start e. subst (λ z. Upto bs start o z r) (sym d.place) (upto_on bs start o k.place.at y.to t r w (x start e) d.plain d.passed c),
+)
 
 pub ran :
-    (l : Literal) (p q : ℕ) (r : Run) → Plain (body_of l.opening) l.inside.bytes.now p q → Ends (body_of l.opening) l.inside.bytes.now q (ending_of r.ending) r.end → r.tally.faults ≤ p
-    → Upto l.inside.bytes.now l.start l.opening p r.tally → Ran l.inside.bytes.now l.start l.opening r
-ran l p q r y h n x =
-    record { opened = opened_in l; stop = q; upto = upto_plain l.inside.bytes.now l.start l.opening p q r.tally x y; ends = h; few = omega (arith, y.order, y.behind.boundary.0) }
+    (bs : List ℕ) (start : ℕ) (o : Opening) (p q : ℕ) (r : Run) → Opened bs start o → Plain (body_of o) bs p q → Ends (body_of o) bs q (ending_of r.ending) r.end → r.tally.faults ≤ p → Upto bs start o p r.tally → Ran bs start o r
+ran bs start o p q r l y h n x = record { opened = l; stop = q; upto = upto_plain bs start o p q r.tally x y; ends = h; few = omega (arith, y.order, y.behind.boundary.0) }

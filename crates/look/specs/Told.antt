@@ -9,6 +9,7 @@ use Rattle.tokens.specs.Grammar.{recorded}
 use Rattle.escapes.specs.Escapes.{Part}
 use Rattle.pieces.specs.Pieces.{scan_of, body_of}
 use Rattle.pieces.specs.declared.piece.Opening.{Opening}
+use Rattle.look.specs.Units.{Opened}
 use Rattle.look.specs.declared.faulty.Due.{Due}
 use Rattle.look.specs.declared.faulty.FaultReader.{FaultReader}
 
@@ -19,6 +20,7 @@ due p q (suc n) = record { kind = Unterminated; from = p; to = q } ∷ due p q n
 
 -- the literal is read up to a place, and these faults are told
 pub record FaultsUpto (bs : List ℕ) (start : ℕ) (o : Opening) (at : ℕ) (fs : List Fault) : Type 0 where
+  pub opened : Opened bs start o
   pub units : Option (List ℕ)
   pub faults : List outcome.Fault
   pub mark : Bool
@@ -39,15 +41,19 @@ ToldAt bs start o at None fs = FaultsUpto bs start o at fs
 ToldAt bs start o at (Some d) fs = AllTold bs start o (fs ++ due start d.end d.count)
 
 abbrev pub Told : FaultReader → List Fault → Type 0
-Told r fs = ToldAt r.literal.inside.bytes.now r.literal.start r.literal.opening r.cursor.place.at r.due fs
+Told r fs = ToldAt r.cursor.bytes.now r.start r.opening r.cursor.place.at r.due fs
 
 -- these are the faults of the literal
 abbrev pub ToldAll : FaultReader → List Fault → Type 0
-ToldAll r fs = AllTold r.literal.inside.bytes.now r.literal.start r.literal.opening fs
+ToldAll r fs = AllTold r.cursor.bytes.now r.start r.opening fs
+
+-- a reader of the same literal
+abbrev pub Same : FaultReader → FaultReader → Type 0
+Same s r = (s.cursor.bytes.now ≡ r.cursor.bytes.now) × (s.opening ≡ r.opening) × (s.start ≡ r.start)
 
 -- a call tells one fault more, and none only where all are told
 abbrev pub Tells : FaultReader → Option Fault → FaultReader → Type 0
-Tells r f s = (s.literal ≡ r.literal) × ((fs : List Fault) → Told r fs → MatchOption f (ToldAll r fs) (λ x. Told s (fs ++ x ∷ [])))
+Tells r f s = Same s r × ((fs : List Fault) → Told r fs → MatchOption f (ToldAll r fs) (λ x. Told s (fs ++ x ∷ [])))
 
 -- falls with each fault
 abbrev pub left_at : List ℕ → ℕ → Option Due → ℕ
@@ -55,4 +61,4 @@ left_at bs at None = 3 + (length bs - at)
 left_at bs at (Some d) = d.count
 
 abbrev pub left : FaultReader → ℕ
-left r = left_at r.literal.inside.bytes.now r.cursor.place.at r.due
+left r = left_at r.cursor.bytes.now r.cursor.place.at r.due

@@ -1,5 +1,5 @@
 -- The units of a literal, one after the other: where their reader stands, and what a call gives. Assumes nothing.
-use Rattle.std.specs.Prelude.{◌≡◌, ℕ, ◌+◌, ◌-◌, ◌*◌, ◌<◌, Bool, List, [], ◌∷◌, ◌++◌, length, Some, None, Option, MatchOption, OnSome}
+use Rattle.std.specs.Prelude.{◌≡◌, ℕ, ◌+◌, ◌-◌, ◌*◌, ◌<◌, ◌≤◌, Bool, List, [], ◌∷◌, ◌++◌, length, Some, None, Option, MatchOption, OnSome}
 use Rattle.grammar.specs.Utf8.{utf8}
 use Rattle.grammar.specs.Rule.{Leaf, Takes}
 use Rattle.grammar.specs.Literal.{Body}
@@ -31,6 +31,7 @@ GivenRead b bs p None = (e : grammar.Ending) × (q : ℕ) × Ends b bs p e q
 
 -- the literal is read up to the end of a piece, its units us are given, and those behind them are the pending ones and the characters from `at` to that end
 pub record Sofar (bs : List ℕ) (start : ℕ) (o : Opening) (at : ℕ) (piece : Piece) (pending us : List ℕ) : Type 0 where
+  pub opened : Opened bs start o
   pub units : Option (List ℕ)
   pub faults : List Fault
   pub mark : Bool
@@ -39,8 +40,8 @@ pub record Sofar (bs : List ℕ) (start : ℕ) (o : Opening) (at : ℕ) (piece :
   pub from : ℕ
   pub read : PieceRead (body_of o) bs from piece.to piece.stop
 
-abbrev pub Gave : UnitReader → List ℕ → Type 0
-Gave r us = Sofar r.literal.inside.bytes.now r.literal.start r.literal.opening r.cursor.place.at r.piece (listed r.pending) us
+abbrev pub Gave : UnitReader → ℕ → List ℕ → Type 0
+Gave r start us = Sofar r.cursor.bytes.now start r.opening r.cursor.place.at r.piece (listed r.pending) us
 
 -- the literal is read to its end, and its value, if it has one, is us
 pub record AllGiven (bs : List ℕ) (start : ℕ) (o : Opening) (us : List ℕ) : Type 0 where
@@ -50,22 +51,30 @@ pub record AllGiven (bs : List ℕ) (start : ℕ) (o : Opening) (us : List ℕ) 
   pub scans : read.scan ≡ scan_of o
   pub value : Holds (units_read read) us
 
-abbrev pub GaveAll : UnitReader → List ℕ → Type 0
-GaveAll r us = AllGiven r.literal.inside.bytes.now r.literal.start r.literal.opening us
+abbrev pub GaveAll : UnitReader → ℕ → List ℕ → Type 0
+GaveAll r start us = AllGiven r.cursor.bytes.now start r.opening us
+
+-- a reader of the same text, by the same rules
+abbrev pub Same : UnitReader → UnitReader → Type 0
+Same s r = (s.cursor.bytes.now ≡ r.cursor.bytes.now) × (s.opening ≡ r.opening)
 
 -- a call gives one unit more, and none only where all are given
 abbrev pub Gives : UnitReader → Option ℕ → UnitReader → Type 0
-Gives r u s = (s.literal ≡ r.literal) × ((us : List ℕ) → Gave r us → MatchOption u (GaveAll r us) (λ x. Gave s (us ++ x ∷ [])))
+Gives r u s = Same s r × ((start : ℕ) (us : List ℕ) → Gave r start us → MatchOption u (GaveAll r start us) (λ x. Gave s start (us ++ x ∷ [])))
 
--- falls with each unit
+-- the bytes that are not read yet
+abbrev pub unread : UnitReader → ℕ
+unread r = length r.cursor.bytes.now - r.cursor.place.at
+
+-- how many units come at most: two a byte, and the pending ones; it falls with each unit
 abbrev pub togo : UnitReader → ℕ
-togo r = 3 * (length r.literal.inside.bytes.now - r.cursor.place.at) + length (listed r.pending)
+togo r = 2 * unread r + length (listed r.pending)
 
--- it reads on where it stands: the same literal, with the same units given, and nearer to the end; or all of them are given
+-- it reads on where it stands: the same literal, with the same units given, nearer to the end, and no more to come than before; or all of them are given
 pub record ReadsOn {A : Type 0} (r : UnitReader) (on : Option A) (s : UnitReader) : Type 0 where
-  pub literal : s.literal ≡ r.literal
-  pub gave : (us : List ℕ) → Gave r us → MatchOption on (GaveAll r us) (λ _. Gave s us)
-  pub nearer : OnSome on (togo s < togo r)
+  pub same : Same s r
+  pub gave : (start : ℕ) (us : List ℕ) → Gave r start us → MatchOption on (GaveAll r start us) (λ _. Gave s start us)
+  pub nearer : OnSome on ((unread s < unread r) × (togo s ≤ togo r))
 
 -- a number of units is that of the literal's value, if it has one
 pub record CountedUnits (bs : List ℕ) (start : ℕ) (o : Opening) (n : ℕ) : Type 0 where

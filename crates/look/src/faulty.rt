@@ -1,7 +1,5 @@
 // The faults of a literal, one after the other.
-ghost use Rattle.std.specs.Prelude.{◌≡◌};
-
-use crate::literal::Literal;
+use pieces::piece::Opening;
 use source::cursor::Cursor;
 
 // Faults that are still to be told behind a literal's end: each from its start to that end.
@@ -14,8 +12,8 @@ pub struct Due {
 // Where the reading of faults stands: in the literal, or behind its end with what is due there.
 #[derive(Clone, Copy)]
 pub struct FaultReader<'t> {
-    pub(crate) literal: Literal<'t>,
     pub(crate) cursor: Cursor<'t>,
+    pub(crate) opening: Opening,
+    pub(crate) start: usize,
     pub(crate) due: Option<Due>,
-    ghost text: { cursor.bytes.now ≡ literal.inside.bytes.now },
 }

@@ -1,15 +1,16 @@
 // How the units of a literal are read.
-ghost use Rattle.std.specs.Prelude.{◌≡◌, ℕ, ◌<◌, ◌≤◌, List, [], ◌∷◌, MatchOption};
+ghost use Rattle.std.specs.Prelude.{◌≡◌, ℕ, ◌+◌, ◌<◌, ◌≤◌, List, [], ◌∷◌, MatchOption};
 ghost use Rattle.std.specs.Iterator.{at_most};
 ghost use Rattle.grammar.specs.Literal.{Body};
 ghost use Rattle.escapes.specs.Escapes.{listed};
 ghost use Rattle.pieces.specs.Pieces.{StopRead};
-ghost use Rattle.look.specs.Units.{GivenRead, Gave, Gives, ReadsOn, togo};
+ghost use Rattle.look.specs.Units.{Opened, GivenRead, Gave, Gives, ReadsOn, togo};
 
 use crate::literal::Literal;
 use crate::units::UnitReader;
 use escapes::unicode::{Given, Units, units_of};
-use pieces::piece::{Stop, next_piece};
+use pieces::piece::{Opening, Stop, next_piece};
+use source::cursor::Cursor;
 
 // What a stop gives and the place where the literal goes on, or none at its end.
 fn given_by(stop: Stop) -> Option<Given>
@@ -53,19 +54,27 @@ fn take_first(units: &mut Units) -> Option<u16>
 impl<'t> Literal<'t> {
     // The units, one after the other.
     pub fn units(self) -> UnitReader<'t>
-        ensures literal { result.literal ≡ self.entry }
-        ensures gave { Gave result [] }
+        ensures cursor { (result.cursor ≡ self.entry.inside) × (result.opening ≡ self.entry.opening) }
+        ensures gave { Gave result self.entry.start [] }
     {
-        UnitReader {
-            literal: self,
-            cursor: self.inside,
-            piece: next_piece(self.inside, self.opening),
-            pending: Units::Nothing,
-        }
+        UnitReader::new(self.inside, self.opening)
     }
 }
 
-impl UnitReader<'_> {
+impl<'t> UnitReader<'t> {
+    // The units of the literal that opens before a cursor's place.
+    pub fn new(cursor: Cursor<'t>, opening: Opening) -> UnitReader<'t>
+        ensures cursor { (result.cursor ≡ cursor.entry) × (result.opening ≡ opening) }
+        ensures gave { (start : ℕ) → Opened cursor.entry.bytes.now start opening → cursor.entry.place.at ≡ start + 1 → Gave result start [] }
+    {
+        UnitReader {
+            cursor,
+            opening,
+            piece: next_piece(cursor, opening),
+            pending: Units::Nothing,
+        }
+    }
+
     // Reads the character at the place.
     fn read_plain(&mut self) -> Option<()>
         requires { (listed self.old.pending ≡ []) × (self.old.cursor.place.at < self.old.piece.to) }
@@ -84,7 +93,7 @@ impl UnitReader<'_> {
     {
         let given = given_by(self.piece.stop)?;
         self.cursor.move_to(given.next);
-        self.piece = next_piece(self.cursor, self.literal.opening);
+        self.piece = next_piece(self.cursor, self.opening);
         self.pending = given.units;
         Some(())
     }

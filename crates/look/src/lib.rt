@@ -7,6 +7,7 @@ mod giving;
 pub mod go;
 pub mod literal;
 pub mod look;
+pub mod readers;
 pub mod run;
 pub mod telling;
 pub mod units;

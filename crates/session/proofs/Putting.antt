@@ -11,13 +11,12 @@ use Rattle.store.proofs.Narrows.{narrow_append}
 use Rattle.look.specs.declared.literal.Literal.{Literal}
 use Rattle.look.specs.declared.units.UnitReader.{UnitReader}
 use Rattle.look.specs.Units.{Gave, AllGiven, Gives}
-use Rattle.look.proofs.GivesUnits.{gave_drained}
+use Rattle.look.proofs.GivesUnits.{given_in}
 use Rattle.session.specs.Literals.{IsRead}
 
 -- those that a loop over them took are all of them
-pub drained : (l : Literal) (q r : UnitReader) (us : List ℕ) → q.literal ≡ l → Gave q [] → r ≡ q → Drains Gives r us → AllGiven l.inside.bytes.now l.start l.opening us
-drained l q r us e g i d =
-    subst (λ (z : Literal). AllGiven z.inside.bytes.now z.start z.opening us) (ap (λ (z : UnitReader). z.literal) i ∙ e) (gave_drained r us (subst (λ (z : UnitReader). Gave z []) (sym i) g) d)
+pub drained : (l : Literal) (q r : UnitReader) (us : List ℕ) → (q.cursor ≡ l.inside) × (q.opening ≡ l.opening) → Gave q l.start [] → r ≡ q → Drains Gives r us → AllGiven l.inside.bytes.now l.start l.opening us
+drained l q r us (e, f) g i d = given_in l r us (ap (λ (z : UnitReader). z.cursor) i ∙ e, ap (λ (z : UnitReader). z.opening) i ∙ f) (subst (λ (z : UnitReader). Gave z l.start []) (sym i) g) d
 
 -- these units were given, and they are in the open value, as long as they fit
 pub record Midway (w : List ℕ → ℕ) (h₀ : Held) (given : List ℕ) (h : Held) (b : Bool) : Type 0 where

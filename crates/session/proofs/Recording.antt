@@ -14,14 +14,14 @@ use Rattle.faults.specs.Records.{faults_of, records_of, room_of}
 use Rattle.look.specs.declared.literal.Literal.{Literal}
 use Rattle.look.specs.declared.faulty.FaultReader.{FaultReader}
 use Rattle.look.specs.Told.{Told, AllTold, Tells}
-use Rattle.look.proofs.TellsFaults.{told_drained}
+use Rattle.look.proofs.TellsFaults.{told_in}
 use Rattle.session.specs.Literals.{IsRead}
 use Rattle.session.specs.Scans.{Recorded}
 
 -- those that a loop over them took are all of them
-pub drained : (l : Literal) (q r : FaultReader) (fs : List Fault) → q.literal ≡ l → Told q [] → r ≡ q → Drains Tells r fs → AllTold l.inside.bytes.now l.start l.opening fs
-drained l q r fs e t i d =
-    subst (λ (z : Literal). AllTold z.inside.bytes.now z.start z.opening fs) (ap (λ (z : FaultReader). z.literal) i ∙ e) (told_drained r fs (subst (λ (z : FaultReader). Told z []) (sym i) t) d)
+pub drained : (l : Literal) (q r : FaultReader) (fs : List Fault) → (q.cursor ≡ l.inside) × (q.opening ≡ l.opening) × (q.start ≡ l.start) → Told q [] → r ≡ q → Drains Tells r fs → AllTold l.inside.bytes.now l.start l.opening fs
+drained l q r fs (e, f, g) t i d =
+    told_in l r fs (ap (λ (z : FaultReader). z.cursor) i ∙ e, ap (λ (z : FaultReader). z.opening) i ∙ f, ap (λ (z : FaultReader). z.start) i ∙ g) (subst (λ (z : FaultReader). Told z []) (sym i) t) d
 
 -- these faults are recorded, if there are records for them
 abbrev pub Halfway : FaultList → List Fault → FaultList → Type 0

@@ -12,7 +12,7 @@ pub returns : goal.returns
 returns g c r us reads is =
     let s = g.S.ValueStore in
     let h = s.held c.args.store.now in
-    let all = drained c.args.literal c.units-unit-items.result c.into_iter-unit-iterator.result c.loop-unit.yielded c.units-unit-items.ensures.literal c.units-unit-items.ensures.gave c.into_iter-unit-iterator.ensures.into_iter_gives
+    let all = drained c.args.literal c.units-unit-items.result c.into_iter-unit-iterator.result c.loop-unit.yielded c.units-unit-items.ensures.cursor c.units-unit-items.ensures.gave c.into_iter-unit-iterator.ensures.into_iter_gives
     (c.next.new.self, (c.loop-unit.unit-iterator, c.loop-unit.yielded_by, c.in-None.ensures.steps)) in
     finished s.weight h c.loop-unit.yielded (s.held c.loop-unit.store) c.loop-unit.fits c.loop-unit.invariant c.args.literal all r us reads is
     (placed h _ _ c.count.ensures c.places.ensures c.if-count-places.false) (s.lawful.sound c.loop-unit.store) _ _ c.finish.ensures.closes c.finish.ensures.drops

@@ -1,5 +1,5 @@
-use Rattle.look.proofs.TellsFaults.{told_new}
+use Rattle.look.proofs.Opens.{opened_in}
 use Rattle.look.proofs.literal.Literal.faults.Goals as goal
 
 pub returns-clause-told : goal.returns-clause-told
-returns-clause-told c = told_new c.args.self
+returns-clause-told c = let l = c.args.self in c.new.ensures.told (opened_in l) l.behind
