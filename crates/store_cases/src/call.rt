@@ -1,4 +1,4 @@
-use replaying::cut;
+use anyhow::Context;
 use std::fmt::{Display, Write};
 
 // A call: its name and two numbers.
@@ -13,8 +13,8 @@ impl<'a> TryFrom<&'a str> for Call<'a> {
     type Error = anyhow::Error;
 
     fn try_from(words: &'a str) -> anyhow::Result<Call<'a>> {
-        let (name, numbers) = cut(words)?;
-        let (a, b) = cut(numbers)?;
+        let (name, numbers) = words.split_once(' ').context("a call has no numbers")?;
+        let (a, b) = numbers.split_once(' ').context("a call has one number")?;
         Ok(Call {
             name,
             a: a.parse::<usize>()?,
