@@ -6,4 +6,4 @@ mod counts;
 mod words;
 
 pub use counts::{Tally, replay};
-pub use words::{cut, unhexed};
+pub use words::{cut, digit_pairs, unhexed};

@@ -1,7 +1,7 @@
 ghost use Rattle.std.specs.Prelude.{◌≡◌, ◌≢◌, ◌⊎◌, ◌<◌, [], length, IsOkAnd, IfOk, IfErr, codes};
 ghost use Rattle.std.specs.List.{before_first, after_first};
 ghost use Rattle.hex.specs.Hex.{decode_of};
-ghost use Rattle.replaying.specs.Words.{is_space};
+ghost use Rattle.replaying.specs.Words.{is_space, digit_pairs_of};
 ghost use Rattle.hex.specs.declared.error.FromHexError.TheVariants.{OutOfMemory};
 
 use anyhow::Context;
@@ -18,6 +18,17 @@ pub fn cut(line: &str) -> anyhow::Result<(&str, &str)>
     line.split_once(' ').context("a line is too short")
 }
 
+// The hex digits that a word begins with, in pairs: a lone last one is left out.
+pub fn digit_pairs(word: &str) -> &str
+    ensures { result.now ≡ digit_pairs_of word.now }
+{
+    let digits = word
+        .bytes()
+        .position(|b| !b.is_ascii_hexdigit())
+        .unwrap_or(word.len());
+    &word[..digits - digits % 2]
+}
+
 // The bytes that a word of hex digits writes; `-` writes none.
 pub fn unhexed(heap: Global, word: &str) -> Result<Vec<u8>, FromHexError>
     ensures dash { word.now ≡ codes "-" → IsOkAnd result (λ bytes. bytes.items ≡ []) }
@@ -32,7 +43,7 @@ pub fn unhexed(heap: Global, word: &str) -> Result<Vec<u8>, FromHexError>
 
 #[cfg(test)]
 mod tests {
-    use super::{cut, unhexed};
+    use super::{cut, digit_pairs, unhexed};
     use std::test::Fail;
 
     #[test]
@@ -41,6 +52,15 @@ mod tests {
         assert_eq!(rt; word, "text");
         assert_eq!(rt; rest, "C280 ok");
         assert!(rt; cut("text").is_err());
+        Ok(())
+    }
+
+    #[test]
+    fn digits_are_paired(rt: HostRuntime) -> Result<(), Fail> {
+        assert_eq!(rt; digit_pairs("C28041"), "C28041");
+        assert_eq!(rt; digit_pairs("C28"), "C2");
+        assert_eq!(rt; digit_pairs("C280x1"), "C280");
+        assert_eq!(rt; digit_pairs("-"), "");
         Ok(())
     }
 
