@@ -3,15 +3,19 @@
 
 ghost use Rattle.std.specs.Iterator.{IsFinite};
 
+mod steps;
+
 use anyhow::bail;
 use faults::Fault;
 use look::answer::{Look, Scan};
 use look::literal::Literal;
-use replaying::{cut, replay, unhexed};
+use look::look::look;
+use replaying::{cut, digit_pairs, replay, unhexed};
 use source::text::Text;
 use std::alloc::Global;
 use std::fmt::Write;
 use std::fs;
+use steps::Steps;
 use tokens::Token;
 
 // A function and no `FromStr`: the trait and the type both are of other crates, and a type of this one around a `Scan` is
@@ -50,22 +54,27 @@ where
     Ok(())
 }
 
-// What a look tells of a literal, its units and its faults.
-fn write_literal(out: &mut String, literal: Literal<'_>) -> anyhow::Result<()> {
-    let Look { token, units, .. } = literal.look();
+// What a look tells of a literal, and the units and the faults that come in some steps.
+fn write_literal(
+    out: &mut String,
+    seen: Look,
+    literal: Literal<'_>,
+    steps: Steps<'_>,
+) -> anyhow::Result<()> {
+    let Look { token, units, .. } = seen;
     let Token { kind, end, .. } = token;
     write!(out, "{kind} {end} {} ", token.mark())?;
     if units.is_some() {
         write_joined(
             out,
-            literal.units(),
+            literal.units().take(steps.units()),
             |out, unit| Ok(write!(out, "{unit:04X}")?),
         )?;
     } else {
         out.push_str("none")?;
     }
     out.push(' ')?;
-    write_joined(out, literal.faults(), |out, fault| {
+    write_joined(out, literal.faults().take(steps.faults()), |out, fault| {
         let Fault { kind, from, to } = fault;
         Ok(write!(out, "{}:{from}:{to}", kind.number())?)
     })
@@ -74,13 +83,18 @@ fn write_literal(out: &mut String, literal: Literal<'_>) -> anyhow::Result<()> {
 // Whether a case gives the answer that its line expects.
 fn agrees(heap: Global, line: &str) -> anyhow::Result<bool> {
     let (scan, rest) = cut(line)?;
+    let scan = scan_named(scan)?;
     let (start, rest) = cut(rest)?;
     let (word, expected) = cut(rest)?;
-    let bytes = unhexed(heap, word)?;
+    let start = start.parse::<usize>()?;
+    let bytes = unhexed(heap, digit_pairs(word))?;
     let text = Text::new(bytes.as_slice());
     let mut told = String::new(heap);
-    match Literal::find(text, start.parse::<usize>()?, scan_named(scan)?) {
-        Ok(literal) => write_literal(&mut told, literal)?,
+    match look(text, start, scan) {
+        Ok(seen) => {
+            let literal = Literal::find(text, start, scan)?;
+            write_literal(&mut told, seen, literal, Steps::of(text, start))?;
+        }
         Err(refusal) => write!(told, "refused {refusal}")?,
     }
     Ok(told.as_str() == expected)
