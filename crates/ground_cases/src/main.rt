@@ -1,9 +1,9 @@
 // Replays data/cases.txt: texts, stops, moves and characters, each with the answer expected of it.
 #![tactic(auto)]
 
-use anyhow::bail;
+use anyhow::{bail, ensure};
 use refusals::Refusal;
-use replaying::{cut, replay, unhexed};
+use replaying::{cut, digit_pairs, replay, unhexed};
 use source::cursor::Cursor;
 use source::text::{LIMIT, Text, check};
 use source::trial::{Place, Trial};
@@ -14,6 +14,15 @@ use stops::search::search;
 use stops::sets::{DoubleQuote, SingleQuote, StopSet, Template};
 use stops::table::Table;
 use survey::survey::count_chars;
+
+// The bytes that a word of hex digits writes, without a lone last digit; `-` writes none.
+fn bytes_of(heap: Global, word: &str) -> anyhow::Result<Vec<u8>> {
+    ensure!(
+        word == "-" || word.chars().all(|c| c.is_ascii_hexdigit()),
+        "no hex digit"
+    );
+    Ok(unhexed(heap, digit_pairs(word))?)
+}
 
 // What the making of a text says of some bytes.
 fn told_of_text(heap: Global, bytes: &[u8]) -> anyhow::Result<String> {
@@ -71,7 +80,7 @@ fn agrees_at<F: FnOnce(&[u8], usize) -> anyhow::Result<String>>(
 {
     let (word, rest) = cut(case)?;
     let (place, expected) = cut(rest)?;
-    let bytes = unhexed(heap, word)?;
+    let bytes = bytes_of(heap, word)?;
     Ok(told(bytes.as_slice(), place.parse::<usize>()?)?.as_str() == expected)
 }
 
@@ -81,7 +90,7 @@ fn agrees(heap: Global, line: &str) -> anyhow::Result<bool> {
     match kind {
         "text" => {
             let (word, expected) = cut(case)?;
-            let bytes = unhexed(heap, word)?;
+            let bytes = bytes_of(heap, word)?;
             Ok(told_of_text(heap, bytes.as_slice())?.as_str() == expected)
         }
         "stop" => {
@@ -94,7 +103,7 @@ fn agrees(heap: Global, line: &str) -> anyhow::Result<bool> {
         }
         "move" => agrees_at(heap, case, |bytes, to| told_of_move(heap, bytes, to)),
         "char" => agrees_at(heap, case, |bytes, at| told_of_char(heap, bytes, at)),
-        _ => bail!("no such kind of case"),
+        _ => agrees_at(heap, case, |_, _| bail!("no such kind of case")),
     }
 }
 
