@@ -75,6 +75,10 @@ impl<'t> Steps<'t> {
     fn told<F: FnMut(Cursor<'_>, Piece) -> (usize, usize)>(self, mut given: F) -> usize
         requires { F.IsAlwaysCallable given }
     {
+        // a step takes a byte at least, but for a few at the end
+        if self.cursor.bytes().len() < STEPS / 2 {
+            return STEPS;
+        }
         let mut cursor = self.cursor;
         let mut steps = 0usize;
         let mut told = STEPS;
