@@ -1,5 +1,5 @@
 -- The units of a literal, one after the other: where their reader stands, and what a call gives. Assumes nothing.
-use Rattle.std.specs.Prelude.{◌≡◌, ℕ, ◌+◌, ◌-◌, ◌*◌, ◌<◌, ◌≤◌, Bool, List, [], ◌∷◌, ◌++◌, length, Some, None, Option, MatchOption, OnSome}
+use Rattle.std.specs.Prelude.{◌≡◌, ℕ, ◌+◌, ◌-◌, ◌*◌, ◌<◌, ◌≤◌, Bool, List, [], ◌∷◌, ◌++◌, length, Some, None, Option, MatchOption}
 use Rattle.grammar.specs.Utf8.{utf8}
 use Rattle.grammar.specs.Rule.{Leaf, Takes}
 use Rattle.grammar.specs.Literal.{Body}
@@ -8,6 +8,7 @@ use Rattle.grammar.specs.Outcome.{Fault, units_read}
 use Rattle.escapes.specs.Places.{At}
 use Rattle.escapes.specs.Escapes.{Part, listed}
 use Rattle.escapes.specs.declared.unicode.Given.{Given}
+use Rattle.escapes.specs.declared.unicode.Units.{Units}
 use Rattle.pieces.specs.Plain.{spelt, utf16s}
 use Rattle.pieces.specs.Pieces.{scan_of, body_of, GoesOn, Ends, PieceRead}
 use Rattle.pieces.specs.declared.piece.Opening.{Opening}
@@ -70,11 +71,23 @@ unread r = length r.cursor.bytes.now - r.cursor.place.at
 abbrev pub togo : UnitReader → ℕ
 togo r = 2 * unread r + length (listed r.pending)
 
+-- the units us are given, and those that were read last are still to be given
+abbrev pub GaveBut : UnitReader → Units → ℕ → List ℕ → Type 0
+GaveBut r w start us = Sofar r.cursor.bytes.now start r.opening r.cursor.place.at r.piece (listed w) us
+
 -- it reads on where it stands: the same literal, with the same units given, nearer to the end, and no more to come than before; or all of them are given
-pub record ReadsOn {A : Type 0} (r : UnitReader) (on : Option A) (s : UnitReader) : Type 0 where
+pub record ReadsOn (r : UnitReader) (on : Option Units) (s : UnitReader) : Type 0 where
   pub same : Same s r
-  pub gave : (start : ℕ) (us : List ℕ) → Gave r start us → MatchOption on (GaveAll r start us) (λ _. Gave s start us)
-  pub nearer : OnSome on ((unread s < unread r) × (togo s ≤ togo r))
+  pub idle : s.pending ≡ r.pending
+  pub gave : (start : ℕ) (us : List ℕ) → Gave r start us → MatchOption on (GaveAll r start us) (λ w. GaveBut s w start us)
+  pub nearer : MatchOption on (Unit {0}) (λ w. (unread s < unread r) × (2 * unread s + length (listed w) ≤ togo r))
+
+-- the first of some units is given and the others are pending, or there is none and all is as it was
+pub record Kept (r : UnitReader) (w : Units) (u : Option ℕ) (s : UnitReader) : Type 0 where
+  pub cursor : s.cursor ≡ r.cursor
+  pub opening : s.opening ≡ r.opening
+  pub piece : s.piece ≡ r.piece
+  pub given : MatchOption u ((listed w ≡ []) × (s.pending ≡ r.pending)) (λ x. listed w ≡ x ∷ listed s.pending)
 
 -- a number of units is that of the literal's value, if it has one
 pub record CountedUnits (bs : List ℕ) (start : ℕ) (o : Opening) (n : ℕ) : Type 0 where

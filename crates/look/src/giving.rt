@@ -4,7 +4,7 @@ ghost use Rattle.std.specs.Iterator.{at_most};
 ghost use Rattle.grammar.specs.Literal.{Body};
 ghost use Rattle.escapes.specs.Escapes.{listed};
 ghost use Rattle.pieces.specs.Pieces.{StopRead};
-ghost use Rattle.look.specs.Units.{Opened, GivenRead, Gave, Gives, ReadsOn, togo};
+ghost use Rattle.look.specs.Units.{Kept, Opened, GivenRead, Gave, Gives, ReadsOn, togo};
 
 use crate::literal::Literal;
 use crate::units::UnitReader;
@@ -76,30 +76,28 @@ impl<'t> UnitReader<'t> {
     }
 
     // Reads the character at the place.
-    fn read_plain(&mut self) -> Option<()>
+    fn read_plain(&mut self) -> Option<Units>
         requires { (listed self.old.pending ≡ []) × (self.old.cursor.place.at < self.old.piece.to) }
         ensures { ReadsOn self.old result self.new }
     {
         let (c, behind) = self.cursor.peek_char()?;
         self.cursor.move_to(behind);
-        self.pending = units_of(c);
-        Some(())
+        Some(units_of(c))
     }
 
     // Reads the stop behind the plain characters, and the next piece; none at the literal's end.
-    fn read_stop(&mut self) -> Option<()>
+    fn read_stop(&mut self) -> Option<Units>
         requires { (listed self.old.pending ≡ []) × (self.old.piece.to ≤ self.old.cursor.place.at) }
         ensures { ReadsOn self.old result self.new }
     {
         let given = given_by(self.piece.stop)?;
         self.cursor.move_to(given.next);
         self.piece = next_piece(self.cursor, self.opening);
-        self.pending = given.units;
-        Some(())
+        Some(given.units)
     }
 
-    // Reads on, where no unit is pending; none at the literal's end.
-    fn read_on(&mut self) -> Option<()>
+    // Reads on, where no unit is pending: what is read is still to be given; none at the literal's end.
+    fn read_on(&mut self) -> Option<Units>
         requires { listed self.old.pending ≡ [] }
         ensures { ReadsOn self.old result self.new }
     {
@@ -107,6 +105,21 @@ impl<'t> UnitReader<'t> {
             self.read_plain()
         } else {
             self.read_stop()
+        }
+    }
+
+    // Gives the first of some units that were read, and keeps the second; none where there is none.
+    fn give(&mut self, units: Units) -> Option<u16>
+        requires { (listed self.old.pending ≡ []) × (0 < self.old.cursor.place.at) }
+        ensures { Kept self.old units result self.new }
+    {
+        match units {
+            Units::Nothing => None,
+            Units::One(unit) => Some(unit),
+            Units::Two(first, second) => {
+                self.pending = Units::One(second);
+                Some(first)
+            }
         }
     }
 }
@@ -118,12 +131,17 @@ impl Iterator for UnitReader<'_> {
 
     ghost remaining = { λ r. at_most (togo r) };
 
+    // in line in each loop over the units, so that the reader stays in registers
+    #[inline(always)]
     fn next(&mut self) -> Option<u16> {
+        if let Some(unit) = take_first(&mut self.pending) {
+            return Some(unit);
+        }
         'reads: loop {
-            if let Some(unit) = take_first(&mut self.pending) {
+            let units = self.read_on()?;
+            if let Some(unit) = self.give(units) {
                 return Some(unit);
             }
-            self.read_on()?;
         }
     }
 }
