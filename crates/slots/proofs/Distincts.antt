@@ -6,6 +6,11 @@ use Rattle.slots.specs.declared.map.Slot.{Slot}
 use Rattle.slots.specs.Entries.{lookup, has_slot, inserted, distinct, start_at, OneAStart}
 use Rattle.slots.specs.Slots.{told, entries}
 
+-- what is not there is None
+none_is : {V : Type 0} (o : Option V) → is_some o ≡ false → o ≡ None
+none_is (Some v) e = absurd (true≢false e)
+none_is None e = refl
+
 swapped : (a b : ℕ) → eqb a b ≡ false → eqb b a ≡ false
 swapped a b e = ne_eqb b a (λ h. eqb-false a b e (sym h))
 
