@@ -112,7 +112,7 @@ sofar_stop bs start o at y z g us x l (u, fs, m, on, h) n =
     }
 
 -- the end
-all_given : (bs : List ℕ) (start : ℕ) (o : Opening) (at : ℕ) (y : Piece) (us : List ℕ) → Sofar bs start o at y [] us → y.to ≤ at → GivenRead (body_of o) bs y.to None → AllGiven bs start o us
+pub all_given : (bs : List ℕ) (start : ℕ) (o : Opening) (at : ℕ) (y : Piece) (us : List ℕ) → Sofar bs start o at y [] us → y.to ≤ at → GivenRead (body_of o) bs y.to None → AllGiven bs start o us
 all_given bs start o at y us x l (e, q, h) =
     record {
       read = record { scan = scan_of o; from = start; opens = x.opened.leaves; start = start + 1; steps = x.part.nodes; stop = y.to; ending = e; ends = h.leaves; to = q };

@@ -56,7 +56,7 @@ one_or_none f false = refl
 abbrev Counted : Tally → Passed → Tally → Type 0
 Counted t w r = (r.faults ≡ t.faults + cond w.faulty 1 0) × (r.cooked ≡ (t.cooked && w.cooked)) × (r.marked ≡ (t.marked || w.marked))
 
-upto_on : (bs : List ℕ) (start : ℕ) (o : Opening) (p q : ℕ) (t r : Tally) (w : Passed) → Upto bs start o p t → Plain (body_of o) bs p q → PassedRead (body_of o) bs q w → Counted t w r → Upto bs start o w.next r
+pub upto_on : (bs : List ℕ) (start : ℕ) (o : Opening) (p q : ℕ) (t r : Tally) (w : Passed) → Upto bs start o p t → Plain (body_of o) bs p q → PassedRead (body_of o) bs q w → Counted t w r → Upto bs start o w.next r
 upto_on bs start o p q t r w x y h (a, b, c) =
     let x₁ = upto_plain bs start o p q t x y in
     let z = part_join (body_of o) (utf8 bs) (start + 1) q w.next x₁.units h.units x₁.faults (faults_at q w) t.marked w.marked x₁.part h.on.part in
@@ -68,7 +68,7 @@ upto_on bs start o p q t r w x y h (a, b, c) =
       cooked = b ∙ ap₂ ◌&&◌ x₁.cooked h.cooked ∙ sym (some_joined x₁.units h.units);
     }
 
-one_more : (w : Passed) → cond w.faulty 1 0 ≤ 1
+pub one_more : (w : Passed) → cond w.faulty 1 0 ≤ 1
 one_more w = go w.faulty
   where
     go : (b : Bool) → cond b 1 0 ≤ 1

@@ -39,13 +39,13 @@ unless t q b h = (refl, refl, h)
 module _ (bs : List ℕ) (p : ℕ) where
   -- TEMPLATES
 
-  raw_crlf : (q : ℕ) → Here bs p 13 → Begins 13 10 (drop p bs) × (q ≡ p + 2) → GoesOn template bs p (Some (10 ∷ [])) [] true q
+  pub raw_crlf : (q : ℕ) → Here bs p 13 → Begins 13 10 (drop p bs) × (q ≡ p + 2) → GoesOn template bs p (Some (10 ∷ [])) [] true q
   raw_crlf q h (b, i) =
       let (e, a) = second bs p 10 (two_here bs p 13 10 h.at (omega arith) (omega arith) b).1 in
       subst (GoesOn template bs p (Some (10 ∷ [])) [] true) (sym i)
       (record { part = one_step template (utf8 bs) (grammar.proper (line_terminator crlf)) p (p + 2) (13 ∷ 10 ∷ []) (_, _, _, h.step, refl, tt, (_, _, _, e, refl, tt, stop (utf8 bs) (p + 2))); behind = a; moves = omega arith })
 
-  raw_cr : Here bs p 13 → (Begins 13 10 (drop p bs) → ⊥) → GoesOn template bs p (Some (10 ∷ [])) [] true (p + 1)
+  pub raw_cr : Here bs p 13 → (Begins 13 10 (drop p bs) → ⊥) → GoesOn template bs p (Some (10 ∷ [])) [] true (p + 1)
   raw_cr h n =
       record {
         part = one_step template (utf8 bs) (grammar.proper (line_terminator cr)) p (p + 1) (13 ∷ []) (_, _, _, h.step, refl, tt, unless (utf8 bs) (p + 1) 10 (second_ahead bs p 13 10 (omega arith) h n));
