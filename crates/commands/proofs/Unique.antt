@@ -1,5 +1,5 @@
 -- An input has one first line, so what is no input of the rest is none of the whole.
-use Rattle.std.proofs.Common.{◌≡◌, ℕ, false, eqb, List, [], ◌∷◌, ◌++◌, length, sym, refl, ap, ◌∙◌, subst, arith, rules}
+use Rattle.std.proofs.Common.{◌≡◌, ℕ, Bool, true, false, cond, T, eqb, List, [], ◌∷◌, ◌++◌, length, get_or, drop, sym, refl, ap, ◌∙◌, subst, arith, rules}
 use Rattle.std.proofs.ByRecursion.{All-append, All-weaker}
 use Rattle.std.proofs.lemmas.Bool.{eqb-false}
 use Rattle.commands.specs.declared.kinds.Word.{Word}
@@ -7,13 +7,34 @@ use Rattle.commands.specs.declared.kinds.Word.TheVariants.{Str, Template, Resume
 use Rattle.commands.specs.declared.kinds.Command.{Command}
 use Rattle.commands.specs.Format.{Digit, Line, Lacks, Input, NoInput, spelled}
 
-same_cut : (a b x y : List ℕ) → Lacks a → Lacks b → a ++ 10 ∷ x ≡ b ++ 10 ∷ y → (a ≡ b) × (x ≡ y)
+-- lists that are the same begin and go on the same
+head_is : (x y : ℕ) (xs ys : List ℕ) → x ∷ xs ≡ y ∷ ys → x ≡ y
+head_is x y xs ys e = ap (λ (l : List ℕ). get_or l 0 0) e
+
+tail_is : (x y : ℕ) (xs ys : List ℕ) → x ∷ xs ≡ y ∷ ys → xs ≡ ys
+tail_is x y xs ys e = ap (λ (l : List ℕ). drop 1 l) e
+
+-- and are cut the same at their first line feed
+pub same_cut : (a b x y : List ℕ) → Lacks a → Lacks b → a ++ 10 ∷ x ≡ b ++ 10 ∷ y → (a ≡ b) × (x ≡ y)
 same_cut [] [] x y p q e = (refl, cc)
 same_cut [] (c ∷ b) x y p q e = absurd (q.0 (cc))
 same_cut (c ∷ a) [] x y p q e = absurd (p.0 (cc))
 same_cut (c ∷ a) (d ∷ b) x y p q e =
     let more = same_cut a b x y p.1 q.1 (cc) in
     (cc (more.0), more.1)
+
+-- the test that a list has no line feed
+abbrev free : List ℕ → Bool
+free [] = true
+free (x ∷ xs) = cond (eqb x 10) false (free xs)
+
+free_step : (x : ℕ) (xs : List ℕ) (b : Bool) → (free xs ≡ true → Lacks xs) → eqb x 10 ≡ b → cond b false (free xs) ≡ true → Lacks (x ∷ xs)
+free_step x xs true more e t = absurd (subst T (sym t) tt)
+free_step x xs false more e t = (eqb-false x 10 e, more t)
+
+free_lacks : (xs : List ℕ) → free xs ≡ true → Lacks xs
+free_lacks [] t = tt
+free_lacks (x ∷ xs) t = free_step x xs (eqb x 10) (λ u. free_lacks xs u) refl t
 
 spelled_lacks : (w : Word) → Lacks (spelled w)
 spelled_lacks Str = search rules
@@ -36,7 +57,7 @@ none_lacks xs p (c ∷ cs) text h = ended h.0 h.1 (subst Lacks h.2 p)
 
 -- where the first line is not empty, an input has it as a command, and an input of the rest
 module _ (xs front rest : List ℕ) (e : xs ≡ front ++ 10 ∷ rest) (p : Lacks front) (some : false ≡ eqb (length front) 0) where
-  split : (cs : List Command) (text : List ℕ) → Input cs text xs → ((c : Command) × Line c front) × ((ds : List Command) × Input ds text rest)
+  pub split : (cs : List Command) (text : List ℕ) → Input cs text xs → ((c : Command) × Line c front) × ((ds : List Command) × Input ds text rest)
   split [] text h = absurd (eqb-false _ _ (sym some) (ap length (same_cut front [] rest text p tt (sym e ∙ h)).0))
   split (c ∷ cs) text h =
       let one = same_cut h.0 front h.1 rest (line_lacks c h.0 h.3) p (sym h.2 ∙ e) in
