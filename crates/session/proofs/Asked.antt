@@ -1,11 +1,11 @@
 -- What the questions reply is what the ledger says. Assumes nothing.
-use Rattle.std.proofs.Common.{◌≡◌, ℕ, zero, suc, Bool, true, false, cond, ltb, List, [], ◌∷◌, length, get_or, Some, None, Ok, Err, Option, Result, sym, refl, ap, ◌∙◌, arith}
+use Rattle.std.proofs.Common.{◌≡◌, ℕ, zero, suc, Bool, true, false, cond, eqb, ltb, List, [], ◌∷◌, length, get_or, Some, None, Ok, Err, Option, Result, sym, refl, ap, ◌∙◌, arith}
 use Rattle.std.specs.Option.{ok_or}
 use Rattle.std.proofs.lemmas.List.{get_or_past}
 use Rattle.std.proofs.lemmas.Bool.{ltb-false, le-ltb, cond-false}
 use Rattle.refusals.specs.declared.Refusal.{Refusal}
 use Rattle.refusals.specs.declared.Refusal.TheVariants.{IndexPastEnd, NoEntry}
-use Rattle.refusals.specs.Numbers.{numbered}
+use Rattle.refusals.specs.Numbers.{number_of, numbered}
 use Rattle.faults.specs.declared.list.Fault.{Fault}
 use Rattle.faults.specs.Records.{faults_of, fault_told}
 use Rattle.slots.specs.Entries.{lookup}
@@ -61,6 +61,10 @@ module _ (w : List ℕ → ℕ) (x : Session) (h : Held) where
   pub no_entry : (s : ℕ) (r : Result (Option ℕ) Refusal) → r ≡ Err NoEntry → None ≡ number s → Asks w (value s) x h (value_reply r)
   no_entry s r is q = value_asks s (value_reply r) (ap value_reply is ∙ ap (λ z. value_asked (kept_by (ledger_of x (dropped h)) z)) q) (ap (λ z. refused_weight (value_reply z)) is)
 
+  -- and of any refusal that has its number
+  pub no_entry_numbered : (s : ℕ) (e : Refusal) → number_of e ≡ 8 → None ≡ number s → Asks w (value s) x h (value_reply (Err e))
+  no_entry_numbered s e is q = value_asks s (refused (number_of e)) (ap refused is ∙ ap (λ z. value_asked (kept_by (ledger_of x (dropped h)) z)) q) (ap (λ (k : ℕ). eqb k 12) is)
+
   told_of : (o : Option ℕ) → value_by (value_of h.values o) ≡ value_told (value_numbered (ledger_of x (dropped h)) o)
   told_of None = refl
   told_of (Some n) = refl
@@ -83,6 +87,14 @@ module _ (w : List ℕ → ℕ) (x : Session) (h : Held) where
   pub no_value_unit : (s i : ℕ) (r : Result ℕ Refusal) → r ≡ Err IndexPastEnd → Some None ≡ number s → Asks w (unit s i) x h (unit_reply r)
   no_value_unit s i r is q =
       unit_asks s i (unit_reply r) (ap unit_reply is ∙ sym (cond-false _ _ _ (le-ltb i 0 (omega arith))) ∙ ap (λ z. unit_asked (kept_by (ledger_of x (dropped h)) z) i) q) (ap (λ z. refused_weight (unit_reply z)) is)
+
+  -- and of any refusal that has the number of these two
+  pub no_entry_unit_numbered : (s i : ℕ) (e : Refusal) → number_of e ≡ 8 → None ≡ number s → Asks w (unit s i) x h (unit_reply (Err e))
+  no_entry_unit_numbered s i e is q = unit_asks s i (refused (number_of e)) (ap refused is ∙ ap (λ z. unit_asked (kept_by (ledger_of x (dropped h)) z) i) q) (ap (λ (k : ℕ). eqb k 12) is)
+
+  pub no_value_unit_numbered : (s i : ℕ) (e : Refusal) → number_of e ≡ 5 → Some None ≡ number s → Asks w (unit s i) x h (unit_reply (Err e))
+  no_value_unit_numbered s i e is q =
+      unit_asks s i (refused (number_of e)) (ap refused is ∙ sym (cond-false _ _ _ (le-ltb i 0 (omega arith))) ∙ ap (λ z. unit_asked (kept_by (ledger_of x (dropped h)) z) i) q) (ap (λ (k : ℕ). eqb k 12) is)
 
   pub a_unit : (s i n : ℕ) (r : Result ℕ Refusal) → numbered r ≡ value_unit_told h n i → Some (Some n) ≡ number s → Asks w (unit s i) x h (unit_reply r)
   a_unit s i n r e q =

@@ -24,6 +24,18 @@ pub record Midway (w : List ℕ → ℕ) (h₀ : Held) (given : List ℕ) (h : H
   pub in_full : b ≡ true → h ≡ holding h₀ given
   pub too_many : b ≡ false → (dropped h ≡ dropped h₀) × (in_room w (holding h₀ given) ≡ false)
 
+-- before the first: the open value was dropped
+pub begun : (w : List ℕ → ℕ) (h₀ h : Held) → h ≡ dropped h₀ → Midway w h [] h true
+begun w h₀ h e = record { narrow = tt; in_full = λ t. e ∙ ap dropped (sym e); too_many = λ f. absurd (true≢false f) }
+
+-- from the state before a stranger's open value was dropped
+pub rebased : (w : List ℕ → ℕ) (h h₀ k : Held) (given : List ℕ) (b : Bool) → h₀ ≡ dropped h → Midway w h₀ given k b → Midway w h given k b
+rebased w h h₀ k given b e mid = record {
+  narrow = mid.narrow;
+  in_full = λ t. mid.in_full t ∙ ap (λ (z : Held). holding z given) e;
+  too_many = λ f. ((mid.too_many f).0 ∙ ap dropped e, sym (ap (λ (z : Held). in_room w (holding z given)) e) ∙ (mid.too_many f).1);
+}
+
 module _ (w : List ℕ → ℕ) (h₀ : Held) (given : List ℕ) (h : Held) (b : Bool) (mid : Midway w h₀ given h b) where
   module _ (heavier : (v : List ℕ) (u : ℕ) → Narrow v → u < 65536 → w v + 1 ≤ w (v ++ (u ∷ []))) (u : ℕ) (small : u < 65536) where
     grows : in_room w (holding h₀ given) ≡ false → in_room w (holding h₀ (given ++ (u ∷ []))) ≡ false

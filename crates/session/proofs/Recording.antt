@@ -1,5 +1,5 @@
 -- A literal's faults recorded one after another. Assumes nothing.
-use Rattle.std.proofs.Common.{◌≡◌, ◌+◌, ◌≤◌, true, cond, ltb, List, [], ◌∷◌, ◌++◌, length, drop, sym, ap, ◌∙◌, subst, append_assoc, arith}
+use Rattle.std.proofs.Common.{◌≡◌, ◌+◌, ◌≤◌, true, cond, ltb, List, [], ◌∷◌, ◌++◌, length, drop, sym, refl, ap, ◌∙◌, subst, append_assoc, append-nil, arith}
 use Rattle.std.specs.Iterator.{Drains}
 use Rattle.std.proofs.lemmas.List.{length-append}
 use Rattle.std.proofs.lemmas.Bool.{lt-ltb, cond-true}
@@ -26,6 +26,10 @@ drained l q r fs (e, f, g) t i d =
 -- these faults are recorded, if there are records for them
 abbrev pub Halfway : FaultList → List Fault → FaultList → Type 0
 Halfway x₀ fs x = length (faults_of x₀) + length fs ≤ room_of x₀ → Recorded x₀ fs x
+
+-- before the first
+pub begun : (x : FaultList) → Halfway x [] x
+begun x fits = record { faults = sym (append-nil (faults_of x)); unwritten = λ e. refl; past = refl; room = refl }
 
 nil_push : {A : Type 0} (xs : List A) (x : A) → xs ++ (x ∷ []) ≡ [] → ⊥
 nil_push xs x e = let a = ap length e in let b = length-append xs (x ∷ []) in omega arith

@@ -8,7 +8,7 @@ use Rattle.ledger.specs.Ledger.{Limits}
 use Rattle.session.specs.declared.Session.{Session}
 use Rattle.session.specs.declared.Call.{Call}
 use Rattle.session.specs.declared.Answer.{Answer}
-use Rattle.session.specs.Views.{Memory, memory_of, unused}
+use Rattle.session.specs.Views.{limits_of, Memory, memory_of, unused}
 use Rattle.session.specs.Calls.{Lives, Called, LivesOn}
 use Rattle.session.specs.Performs.{asked, reply, transcript}
 
@@ -48,6 +48,16 @@ module _ (w : List ℕ → ℕ) (m : Limits) (text : List ℕ) (stored : List (L
 
   pub end : (i : ℕ) (rs : List (Result Answer Refusal)) (x : Session) (h : Held) → min (length cs) (length rs) ≤ i → Served w m text stored memory cs rs₀ i rs x h → Lives w m text stored (transcript cs rs) x h
   end i rs x h p served = subst (λ z. Lives w m text stored z x h) (all_of cs rs i p) served.lives
+
+-- before the first call
+pub first :
+    (w : List ℕ → ℕ) (m : Limits) (text : List ℕ) (stored : List (List ℕ)) (cs : List Call) (rs : List (Result Answer Refusal)) (x : Session) (h : Held) → Lives w m text stored [] x h → h.values ≡ stored
+    → Served w (limits_of x h) text h.values (unused (memory_of x)) cs rs 0 rs x h
+first w m text stored cs rs x h lived e = record {
+  lives = subst (λ z. Lives w (limits_of x h) text z [] x h) (sym e) (subst (λ (z : Limits). Lives w z text stored [] x h) (sym lived.limits) lived);
+  beyond = refl;
+  past = refl;
+}
 
 -- and as the caller sees it
 pub whole :
