@@ -1,5 +1,5 @@
 -- Questions asked one after another. Assumes nothing.
-use Rattle.std.proofs.Common.{◌≡◌, ℕ, zero, suc, ◌+◌, ◌<◌, true, ltb, List, [], ◌∷◌, ◌++◌, length, Some, None, Ok, Err, Option, Result, IsOk, sym, refl, ap, ◌∙◌, subst, arith, length-append}
+use Rattle.std.proofs.Common.{◌≡◌, ℕ, zero, suc, ◌+◌, ◌<◌, Bool, true, false, cond, ltb, List, [], ◌∷◌, ◌++◌, length, get_or, Some, None, Ok, Err, Option, Result, IsOk, sym, refl, ap, ◌∙◌, subst, arith, length-append}
 use Rattle.std.proofs.lemmas.Bool.{lt-ltb}
 use Rattle.refusals.specs.declared.Refusal.{Refusal}
 use Rattle.faults.specs.declared.list.Fault.{Fault}
@@ -28,6 +28,26 @@ fault_is_told fs i (Ok f) p q = refl
 fault_is_told [] i (Err x) p q = absurd (omega arith)
 fault_is_told (f ∷ fs) zero (Err x) p q = absurd (cc)
 fault_is_told (f ∷ fs) (suc i) (Err x) p q = fault_is_told fs i (Err x) (omega arith) q
+
+-- THE SAME OF A REPLY THAT REFUSES, WHATEVER ITS NUMBER
+
+refused_unit : (us : List ℕ) (i n : ℕ) (b : Bool) → ltb i (length us) ≡ b → i < length us → ask.refused n ≡ cond b (ask.united (get_or us i 0)) (ask.refused 5) → ⊥
+refused_unit us i n true e p q = let z : ◌≡◌ {A = ℕ} 0 1 = cc in omega arith
+refused_unit us i n false e p q = let f : true ≡ false = sym (lt-ltb i (length us) p) ∙ e in let z : ◌≡◌ {A = ℕ} 0 1 = cc in omega arith
+
+-- a unit within the value's length is refused by no number
+pub unit_not_refused : (v : Option (Option (List ℕ))) (many i n : ℕ) → ask.valued true many ≡ value_asked v → i < many → ask.refused n ≡ unit_asked v i → ⊥
+unit_not_refused None many i n e p q = let z : ◌≡◌ {A = ℕ} 0 1 = cc in omega arith
+unit_not_refused (Some None) many i n e p q = let z : ◌≡◌ {A = ℕ} 0 1 = cc in omega arith
+unit_not_refused (Some (Some us)) many i n e p q =
+    let same : many ≡ length us = cc in
+    refused_unit us i n (ltb i (length us)) refl (omega arith) q
+
+-- and neither is a fault below the count
+pub fault_not_refused : (fs : List Fault) (i n : ℕ) → i < length fs → ask.refused n ≡ fault_asked fs i → ⊥
+fault_not_refused [] i n p q = omega arith
+fault_not_refused (f ∷ fs) zero n p q = let z : ◌≡◌ {A = ℕ} 0 1 = cc in omega arith
+fault_not_refused (f ∷ fs) (suc i) n p q = fault_not_refused fs i n (omega arith) q
 
 -- one item more, and it answers at its index
 pub answers_more :

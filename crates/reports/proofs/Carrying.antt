@@ -1,15 +1,23 @@
 -- Exchanges one after another. Assumes nothing.
-use Rattle.std.proofs.Common.{◌≡◌, ℕ, ◌+◌, ◌<◌, ◌≤◌, Bool, true, cond, List, [], ◌∷◌, ◌++◌, map, length, get_or, take, vec_items, sym, refl, ap, ◌∙◌, subst, append_assoc, append-nil, take_all}
+use Rattle.std.proofs.Common.{◌≡◌, ℕ, ◌+◌, ◌<◌, ◌≤◌, Bool, true, cond, List, [], ◌∷◌, ◌++◌, map, length, get_or, take, vec_items, sym, refl, ap, ◌∙◌, subst, append_assoc, append-nil, arith, take_all}
 use Rattle.std.proofs.ResultArms.{chosen}
 use Rattle.std.proofs.lemmas.List.{take_more}
 use Rattle.store.specs.Held.{Held}
+use Rattle.ledger.specs.Calls as ask
 use Rattle.session.specs.declared.Session.{Session}
 use Rattle.session.specs.Calls.{Carries}
 use Rattle.session.proofs.Carrying.{still, joined, as_told}
 use Rattle.commands.specs.declared.kinds.Command.{Command}
 use Rattle.reports.specs.declared.report.Line.{Line}
 use Rattle.reports.specs.declared.report.Report.{Report}
-use Rattle.reports.specs.Transcript.{told_of, lines_told, all_faults_told, Played}
+use Rattle.reports.specs.Transcript.{each_told, told_of, lines_told, all_faults_told, Played}
+
+-- one item more is one exchange more
+pub each_more : {A : Type 0} (f : ℕ → A → ask.Exchange) (i : ℕ) (xs : List A) (a : A) → each_told f i (xs ++ (a ∷ [])) ≡ each_told f i xs ++ (f (i + length xs) a ∷ [])
+each_more f i [] a = ap (λ (k : ℕ). f k a ∷ []) (omega arith)
+each_more f i (b ∷ xs) a =
+    let up : i + 1 + length xs ≡ i + length (b ∷ xs) = omega arith in
+    ap (λ z. f i b ∷ z) (each_more f (i + 1) xs a ∙ ap (λ (k : ℕ). each_told f (i + 1) xs ++ (f k a ∷ [])) up)
 
 -- one line more
 pub line_more : (ls : List Line) (l : Line) → lines_told (ls ++ (l ∷ [])) ≡ lines_told ls ++ told_of l.command l.told
