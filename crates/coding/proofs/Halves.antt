@@ -1,6 +1,6 @@
 -- A high half at the end of bytes. Assumes nothing.
 use Rattle.std.proofs.Common.{◌≡◌, ℕ, ◌+◌, ◌-◌, ◌*◌, ◌/◌, ◌%◌, ◌<◌, ◌≤◌, true, ltb, leb, List, [], ◌∷◌, ◌++◌, length, get_or, take, drop, Some, None, Option, ◌⊎◌, inl, inr, sym, refl, ap, ◌∙◌, arith}
-use lib.Utf8.{next}
+use lib.Utf8.{encode, next}
 use Rattle.std.proofs.lemmas.List.{append_assoc, length-append, take-append-drop, drop_more, drop_all, get_or-append-add}
 use Rattle.std.proofs.lemmas.Bool.{le-leb, lt-ltb, and_from, cond-true}
 use Rattle.coding.specs.Codes.{high, wtf8, starts, units, trail, recode}
@@ -71,3 +71,7 @@ no_half bs r = go (trail (units bs)) refl
     go : (o : Option ℕ) → trail (units bs) ≡ o → (None ≡ o) ⊎ Ended bs
     go None e = inl refl
     go (Some t) e = inr (half_ends bs t r e)
+
+-- bytes that begin with those of a code point
+pub front_is : (c : ℕ) (x bs : List ℕ) → encode c ≡ x → take (length x) bs ≡ x → take (length (encode c)) bs ≡ encode c
+front_is c x bs e f = ap (λ t. take (length t) bs) e ∙ f ∙ sym e

@@ -1,7 +1,10 @@
 -- The units of bytes, one byte after another. Assumes nothing.
-use Rattle.std.proofs.Common.{◌≡◌, ℕ, ◌+◌, ◌-◌, ◌*◌, ◌/◌, ◌%◌, ◌<◌, ◌≤◌, Bool, true, false, cond, ltb, List, [], ◌∷◌, ◌++◌, length, get_or, take, drop, Some, None, Option, refl, sym, ap, ◌∙◌, arith}
-use Rattle.std.specs.List.{cons_option}
+use Rattle.std.proofs.Common.{◌≡◌, ℕ, ◌+◌, ◌-◌, ◌*◌, ◌/◌, ◌%◌, ◌<◌, ◌≤◌, Bool, true, false, cond, ltb, List, [], ◌∷◌, ◌++◌, length, get_or, take, drop, Some, None, Ok, Err, Option, refl, sym, ap, ◌∙◌, ⊎_elim, arith}
+use Rattle.std.specs.List.{cons_option, slice_get}
 use Rattle.std.proofs.lemmas.List.{length-append, take_all}
+use Rattle.std.proofs.lemmas.Option.{slice_get-get_or, slice_get_past}
+use Rattle.std.proofs.lemmas.Bool.{cases_lt, lt-ltb, le-ltb, cond-true, cond-false}
+use Rattle.store.specs.Held.{unit_told}
 use Rattle.coding.specs.Codes.{two, three, four, starts, units}
 
 -- at most two units begin at a byte
@@ -33,3 +36,16 @@ first_unit (b ∷ bs) u second h e =
 pub no_units : (bs : List ℕ) → length bs < 1 → units bs ≡ []
 no_units [] h = refl
 no_units (b ∷ bs) h = absurd (omega arith)
+
+-- what is told of a unit that was looked for
+pub some_told : (v : List ℕ) (i u : ℕ) → Some u ≡ slice_get v i → Ok u ≡ unit_told v i
+some_told v i u h = ⊎_elim
+    (λ lt. let k : u ≡ get_or v i 0 = (let g = slice_get-get_or v i 0 lt in cc) in ap Ok k ∙ sym (cond-true _ _ _ (lt-ltb i (length v) lt)))
+    (λ ge. absurd (let z : ◌≡◌ {A = ℕ} 0 1 = (let g = slice_get_past v i ge in cc) in omega arith))
+    (cases_lt i (length v))
+
+pub none_told : (v : List ℕ) (i : ℕ) → None ≡ slice_get v i → Err 5 ≡ unit_told v i
+none_told v i h = ⊎_elim
+    (λ lt. absurd (let z : ◌≡◌ {A = ℕ} 0 1 = (let g = slice_get-get_or v i 0 lt in cc) in omega arith))
+    (λ ge. sym (cond-false _ _ _ (le-ltb i (length v) ge)))
+    (cases_lt i (length v))
