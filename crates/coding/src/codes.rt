@@ -1,10 +1,11 @@
-ghost use Rattle.std.specs.Prelude.{◌≡◌, ◌%◌, ◌<◌, ◌≤◌, [], ◌∷◌, length, if◌then◌else◌, Ok, Err, nat_le, slice_index};
+ghost use Rattle.std.specs.Prelude.{◌≡◌, ◌%◌, ◌+◌, ◌<◌, ◌≤◌, [], ◌∷◌, length, if◌then◌else◌, Ok, Err, nat_le, slice_index};
 ghost use Rattle.std.proofs.Math.Utf8.{encode};
 ghost use Rattle.std.specs.Iterator.{YieldsFirst, item_count};
 ghost use Rattle.refusals.specs.Numbers.{numbered};
+ghost use Rattle.store.specs.Cuts.{laid};
 ghost use Rattle.store.specs.Held.{overlaid, unit_told};
 ghost use Rattle.coding.specs.Codes.{high, low, starts, units, trail, recode, from_of, code_of};
-ghost use Rattle.coding.specs.Read.{told, left};
+ghost use Rattle.coding.specs.Read.{told, begins, left};
 
 use refusals::Refusal;
 
@@ -155,10 +156,17 @@ impl<'a> Iterator for Utf16<'a> {
 
     ghost remaining = { item_count left };
 
-    #[tactic(auto, using(crate::proofs::Steps::first_unit, crate::proofs::Steps::no_units))]
+    // inlined, so that a walk has its state in registers
+    #[inline(always)]
+    #[tactic(auto, using(crate::proofs::Steps::first_plain, crate::proofs::Steps::first_unit, crate::proofs::Steps::no_units))]
     fn next(&mut self) -> Option<u16> {
         if let Some(unit) = self.second.take() {
             return Some(unit);
+        }
+        // most text is ASCII, and needs no pair
+        if let [first @ 0..=0x7F, rest @ ..] = self.rest {
+            self.rest = rest;
+            return Some(u16::from(*first));
         }
         while let [first, rest @ ..] = self.rest {
             self.rest = rest;
@@ -171,19 +179,63 @@ impl<'a> Iterator for Utf16<'a> {
     }
 }
 
+// How many units begin at a byte: none at one that goes on with a character, two where a pair does; by sums, without a branch.
+fn many_at(first: u8) -> usize
+    ensures { result ≡ begins first }
+{
+    usize::from(!(0x80..0xC0).contains(&first)) + usize::from(first >= 0xF0)
+}
+
 // How many units the bytes are.
-#[tactic(auto, using(crate::proofs::Steps::units_few))]
 pub fn unit_count(bytes: &[u8]) -> usize
     ensures { result ≡ length (units bytes.now) }
 {
-    Utf16::new(bytes).count()
+    // by branches, which text that stays with one kind of byte makes cheap
+    bytes
+        .iter()
+        .map(|first| match first {
+            0..=0x7F => 1,
+            0x80..=0xBF => 0,
+            _ => 1 + usize::from(*first >= 0xF0),
+        })
+        .sum()
 }
 
-// The unit that is number `i` of those that the bytes are.
+// The unit that is number `i` of those that the bytes are: the bytes are passed up to the one at which it begins.
 pub fn unit_at(bytes: &[u8], i: usize) -> Result<u16, Refusal>
     ensures { numbered result ≡ unit_told (units bytes.now) i }
 {
-    Utf16::new(bytes).nth(i).ok_or(Refusal::IndexPastEnd)
+    let mut tail = bytes;
+    let mut to_go = i;
+    while let [first, rest @ ..] = tail {
+        let many = many_at(*first);
+        if to_go < many {
+            break;
+        }
+        to_go -= many;
+        tail = rest;
+    }
+    Utf16::new(tail).nth(to_go).ok_or(Refusal::IndexPastEnd)
+}
+
+// Writes the units that begin at a byte to `out` from cell `at` on, and answers where the next is written.
+fn write_at(out: &mut [u16], at: usize, begun: Option<(u16, Option<u16>)>) -> usize
+    requires { at + length (told begun) ≤ length out.old }
+    ensures after { out.new ≡ laid out.old at (told begun) }
+    ensures next { result ≡ at + length (told begun) }
+{
+    match begun {
+        None => at,
+        Some((unit, None)) => {
+            out[at] = unit;
+            at + 1
+        }
+        Some((unit, Some(second))) => {
+            out[at] = unit;
+            out[at + 1] = second;
+            at + 2
+        }
+    }
 }
 
 // Writes the units that the bytes are to the front of `out`, and answers how many they are: one walk to count them, one to write.
@@ -195,9 +247,12 @@ pub fn read_units(bytes: &[u8], out: &mut [u16]) -> Result<usize, Refusal>
     if many > out.len() {
         return Err(Refusal::IndexPastEnd);
     }
-    // the units by index, since a proof loses what a zip over iter_mut writes
-    for (i, unit) in Utf16::new(bytes).enumerate() {
-        out[i] = unit;
+    // byte by byte, since a proof loses what a zip over iter_mut writes
+    let mut at = 0;
+    let mut tail = bytes;
+    while let [first, rest @ ..] = tail {
+        at = write_at(out, at, begun(*first, rest));
+        tail = rest;
     }
     Ok(many)
 }
