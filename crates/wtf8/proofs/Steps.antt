@@ -1,14 +1,15 @@
 -- What the acts of a store of WTF-8 do to what it holds. Assumes nothing.
-use Rattle.std.proofs.Common.{◌≡◌, ℕ, zero, suc, ◌+◌, ◌-◌, ◌<◌, Bool, true, false, cond, ◌&&◌, leb, List, [], ◌∷◌, ◌++◌, map, length, get_or, take, Some, None, Option, refl, sym, ap, ◌∙◌, arith}
+use Rattle.std.proofs.Common.{◌≡◌, ℕ, zero, suc, ◌+◌, ◌-◌, ◌<◌, ◌≤◌, Bool, true, false, cond, ◌&&◌, leb, List, [], ◌∷◌, ◌++◌, map, length, get_or, take, Some, None, Option, refl, sym, ap, ◌∙◌, arith}
 use lib.Utf8.{encode}
-use Rattle.std.proofs.lemmas.List.{length-append, take_at, take_all}
+use Rattle.std.proofs.lemmas.List.{length-append, length-take, take_at, take_all}
 use Rattle.std.proofs.lemmas.Bool.{and_parts}
 use Rattle.store.specs.Held.{Narrow, fits, with_unit}
 use Rattle.store.proofs.Narrows.{narrow_append}
 use Rattle.coding.specs.Codes.{high, low, join, wtf8, weight, units, trail, pairs, recode, from_of, code_of}
 use Rattle.coding.proofs.Trips.{narrow_units, units_wtf8, front, trail_high, wtf8_more, wtf8_high, wtf8_join, three_bytes}
 use Rattle.cuts.specs.declared.lists.Cuts.{Cuts}
-use Rattle.cuts.specs.Lists.{lists, opened, places_of, capacity_of, takes}
+use Rattle.cuts.specs.Lists.{used, finished, lists, opened, places_of, capacity_of, takes}
+use Rattle.cuts.proofs.Putting.{used_of}
 use Rattle.wtf8.specs.declared.Wtf8.{Wtf8}
 use Rattle.wtf8.specs.Meaning.{held_of}
 use Rattle.wtf8.specs.Views.{meaning}
@@ -40,6 +41,15 @@ module _ (o : List ℕ) (fresh : recode o ≡ o) (half : Option ℕ) (last : hal
       go None e = alone (ap (λ h. pairs h u) e)
       go (Some h) e = pick h e (high h && low u) refl
 
+-- a unit's character begins among the open bytes or right behind them
+from_most : (half : Option ℕ) (n u : ℕ) → from_of half n u ≤ n
+from_most None n u = omega arith
+from_most (Some h) n u = pick (high h && low u)
+  where
+    pick : (b : Bool) → cond b (n - 3) n ≤ n
+    pick true = omega arith
+    pick false = omega arith
+
 -- what a store's open bytes become, from what its calls answer
 pub put_bytes : (o open_now : List ℕ) (half : Option ℕ) (u kept code : ℕ) (bytes : List ℕ) → recode o ≡ o → open_now ≡ o → (recode open_now ≡ open_now → half ≡ trail (units open_now)) → kept ≡ from_of half (length open_now) u → code ≡ code_of half u → bytes ≡ encode code → take kept o ++ bytes ≡ wtf8 (units o ++ (u ∷ []))
 put_bytes o open_now half u kept code bytes fresh e last place is b =
@@ -49,6 +59,22 @@ put_bytes o open_now half u kept code bytes fresh e last place is b =
 -- one unit more fits where its bytes do
 pub fits_is : (s : Wtf8) (u : ℕ) → fits weight (meaning s) u ≡ takes s.cuts (wtf8 (units (opened s.cuts) ++ (u ∷ [])))
 fits_is s u = ap (λ n. leb (n + weight (units (opened s.cuts) ++ (u ∷ []))) (capacity_of s.cuts)) (values_weigh s)
+
+-- the same order with as much added on both sides
+same_test : (a b c d n : ℕ) → a + n ≡ c → b + n ≡ d → leb a b ≡ leb c d
+same_test a b c d n e f = grind arith
+
+-- the same in numbers, and that the open bytes are told again: by this a test of the room in `put` itself is proved, as its must-fail edits have one
+pub fits_from : (s : Wtf8) (u : ℕ) → (fits weight (meaning s) u ≡ leb (length (used s.cuts) + from_of (trail (units (opened s.cuts))) (length (opened s.cuts)) u + length (encode (code_of (trail (units (opened s.cuts))) u))) (capacity_of s.cuts + length (opened s.cuts))) × (recode (opened s.cuts) ≡ opened s.cuts)
+fits_from s u =
+    let o : List ℕ = opened s.cuts in
+    let t : Option ℕ = trail (units o) in
+    let n = used_of s.cuts in
+    let m = sym (ap length (more_is o s.fresh t refl u)) in
+    let a = length-append (take (from_of t (length o) u) o) (encode (code_of t u)) in
+    let k = length-take (from_of t (length o) u) o in
+    let f = from_most t (length o) u in
+    (fits_is s u ∙ same_test (finished s.cuts + weight (units o ++ (u ∷ []))) (capacity_of s.cuts) (length (used s.cuts) + from_of t (length o) u + length (encode (code_of t u))) (capacity_of s.cuts + length o) (length o) (omega arith) refl, s.fresh)
 
 -- what a store holds after a call, from its lists
 pub held_with : (c c' : Cuts ℕ) (u : ℕ) (b : Bool) → u < 65536 → lists c' ≡ lists c → opened c' ≡ cond b (wtf8 (units (opened c) ++ (u ∷ []))) (opened c) → places_of c' ≡ places_of c → capacity_of c' ≡ capacity_of c → held_of c' ≡ cond b (with_unit (held_of c) u) (held_of c)
